@@ -72,29 +72,25 @@ pub fn parse<'a>(alloc: Global, words: &'a [String]) -> Result<Asked<'a>, Error>
 
 // What the matches ask for; else what is wrong with them.
 fn asked_in<'a>(matches: &ArgMatches<'a>) -> Result<Asked<'a>, &'static str> {
-    let server_word = matches
-        .get_str("HOST[:PORT]")
-        .ok_or("HOST[:PORT] is missing")?;
-    let (host, port) = host_in(server_word).ok_or(
-        "HOST[:PORT]: an IPv4 address or a name, with a port or without, is wanted",
-    )?;
+    let missing = "HOST[:PORT] is missing";
+    let wanted = "HOST[:PORT]: an IPv4 address or a name, with a port or without, is wanted";
+    let server_word = matches.get_str("HOST[:PORT]").ok_or(missing)?;
+    let (host, port) = host_in(server_word).ok_or(wanted)?;
     let source = matches.get_str("source").unwrap_or("0.0.0.0");
     if source.parse::<Ipv4Addr>().is_err() {
         return Err("--source ADDRESS: an IPv4 address is wanted");
     }
-    let number = matches
-        .get_one::<u16>("number")
-        .and_then(NonZero::<u16>::new);
-    let key = match (matches.get_str("key-file"), number) {
+    let file = matches.get_str("key-file");
+    let number = matches.get_one::<u16>("number");
+    let key = match (file, number.and_then(NonZero::<u16>::new)) {
         (Some(file), Some(number)) => Some((file, number)),
         (None, None) => None,
         _ => return Err("--key-file FILE and --number N: both are wanted, or neither"),
     };
+    let warnings = ["warn-offset", "warn-stratum", "warn-root-distance"];
     let most = limits(matches, ["max-offset", "max-stratum", "max-root-distance"])?;
-    let warn = limits(
-        matches,
-        ["warn-offset", "warn-stratum", "warn-root-distance"],
-    )?;
+    let warn = limits(matches, warnings)?;
+    let is_limited = |it: Limits| it.offset.or(it.stratum).or(it.root_distance).is_some();
     Ok(Asked {
         host,
         port,
@@ -109,7 +105,7 @@ fn asked_in<'a>(matches: &ArgMatches<'a>) -> Result<Asked<'a>, &'static str> {
             .ok_or("--timeout S: 0.01 to 60 seconds are wanted")?
             .unwrap_or(5_000_000_000),
         json: matches.get_flag("json"),
-        is_check: is_limited(&most) || is_limited(&warn),
+        is_check: is_limited(most) || is_limited(warn),
         most,
         warn,
     })
@@ -126,19 +122,13 @@ fn limits(matches: &ArgMatches<'_>, names: [&str; 3]) -> Result<Limits, &'static
     })
 }
 
-// Whether anything is limited.
-fn is_limited(limits: &Limits) -> bool {
-    limits.offset.is_some() || limits.stratum.is_some() || limits.root_distance.is_some()
-}
-
 // The seconds behind a name in nanoseconds, or that the words lack the name; nothing where they are out of their range.
 fn nanos_at(matches: &ArgMatches<'_>, name: &str, least: u64, most: u64) -> Option<Option<u64>> {
     let Some(seconds) = matches.get_one::<f64>(name) else {
         return Some(None);
     };
     let nanos = num::saturating_f64_to_u64((seconds * SECOND_NANOS).round());
-    let is_within = seconds >= 0.0 && least <= nanos && nanos <= most;
-    if is_within { Some(Some(nanos)) } else { None }
+    (seconds >= 0.0 && least <= nanos && nanos <= most).then_some(Some(nanos))
 }
 
 // The command line, with its help.
@@ -171,9 +161,8 @@ fn command<'a>(alloc: Global) -> Result<Command<'a>, AllocError> {
         let arg = arg.action(ArgAction::Set).value_parser(parser);
         command = command.arg(arg.help(help))?;
     }
-    command
-        .arg(arg!(in alloc; --json "Prints an object of JSON for each query"))?
-        .arg(
-            arg!(in alloc; <"HOST[:PORT]"> "Its IPv4 address or name; port 123 where none is given"),
-        )
+    let json = arg!(in alloc; --json "Prints an object of JSON for each query");
+    let host =
+        arg!(in alloc; <"HOST[:PORT]"> "Its IPv4 address or name; port 123 where none is given");
+    command.arg(json)?.arg(host)
 }

@@ -21,11 +21,6 @@ pub struct Faults<'a> {
 }
 
 impl<'a> Faults<'a> {
-    /// Speaks to monitoring or to a person.
-    pub fn new(rt: &'a HostRuntime, is_check: bool) -> Faults<'a> {
-        Faults { rt, is_check }
-    }
-
     /// Says what is wrong with the key file, the socket or standard output, and gives the exit status.
     pub fn report<D: Display + Drop>(self, fault: D) -> u8 {
         let _ = if self.is_check {

@@ -27,18 +27,14 @@ pub fn read_key(path: &str, number: NonZero<u16>, faults: Faults<'_>) -> Result<
     key_in_text(text, number.get()).map_err(|fault| match fault {
         KeyFileFault::Missing => faults.report(format_args!("{path}: there is no key {number}")),
         KeyFileFault::Line { line, fault } => {
-            faults.report(format_args!("{path}: line {line}: {}", wanted(fault)))
+            let wanted = match fault {
+                KeyLineFault::Words => "NUMBER [MD5|SHA1] [ASCII:|HEX:]KEY is wanted",
+                KeyLineFault::Algorithm => "MD5 or SHA1 is wanted",
+                KeyLineFault::Key => {
+                    "a key of 1 to 32 octets is wanted, behind HEX: in 2 to 64 hexadecimal digits"
+                }
+            };
+            faults.report(format_args!("{path}: line {line}: {wanted}"))
         }
     })
-}
-
-// What is wanted in place of a line's fault.
-fn wanted(fault: KeyLineFault) -> &'static str {
-    match fault {
-        KeyLineFault::Words => "NUMBER [MD5|SHA1] [ASCII:|HEX:]KEY is wanted",
-        KeyLineFault::Algorithm => "MD5 or SHA1 is wanted",
-        KeyLineFault::Key => {
-            "a key of 1 to 32 octets is wanted, behind HEX: in 2 to 64 hexadecimal digits"
-        }
-    }
 }

@@ -26,7 +26,8 @@ fn main(rt: HostRuntime) -> ExitCode {
 
 // Does what the command line asks for, and gives the exit status.
 fn status(rt: &HostRuntime) -> u8 {
-    let person = Faults::new(rt, false);
+    let is_check = false;
+    let person = Faults { rt, is_check };
     // Where one is closed, the socket takes its place, and would send the server what is printed.
     if !has_standard_streams() {
         return person.report("write");
@@ -40,17 +41,21 @@ fn status(rt: &HostRuntime) -> u8 {
     };
     match parse(rt.alloc(), &words) {
         Ok(asked) => query_status(rt, &asked).unwrap_or_else(|status| status),
-        Err(error) => refused_status(rt, &error, Faults::new(rt, is_check_asked(&words))),
+        Err(error) => refused_status(rt, &error, &words),
     }
 }
 
-// Says why the words ask for no query, and gives the exit status. The help and the version go to standard output.
-fn refused_status(rt: &HostRuntime, error: &Error, faults: Faults<'_>) -> u8 {
+// Says why the words ask for no query, and gives the exit status. The help and the version go to standard output. The words ask for a check
+// where one of them begins as the limits do.
+fn refused_status(rt: &HostRuntime, error: &Error, words: &[String]) -> u8 {
+    let is_check = words.iter().any(|word| word.starts_with("--max-")
+        || word.starts_with("--warn-"));
+    let faults = Faults { rt, is_check };
     if error.kind() == ErrorKind::OutOfMemory {
         return faults.memory();
     }
     match error.print(rt) {
-        _ if error.use_stderr() && faults.is_check => faults.report("usage"),
+        _ if error.use_stderr() && is_check => faults.report("usage"),
         _ if error.use_stderr() => USAGE_REFUSED,
         Ok(()) => 0,
         Err(_) => faults.report("write"),
@@ -60,9 +65,4 @@ fn refused_status(rt: &HostRuntime, error: &Error, faults: Faults<'_>) -> u8 {
 // The words of the command line; the first is the program's name.
 fn words(rt: &HostRuntime) -> io::Result<Vec<String>> {
     Ok(env::args(rt)?.collect(rt.alloc())?)
-}
-
-// Whether the words ask for a check: one of them begins as the limits do.
-fn is_check_asked(words: &[String]) -> bool {
-    words.iter().any(|word| word.starts_with("--max-") || word.starts_with("--warn-"))
 }

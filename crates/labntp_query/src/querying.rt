@@ -10,15 +10,10 @@ use ntp_packet::Stamp;
 use ntp_query::{Asker, Check, Least, Outcome, check_status, least_delay, verdict_of};
 use std::io;
 
-/// A query gave a sample.
-const SAMPLED: u8 = 0;
-
-/// None did.
-const NO_SAMPLE: u8 = 1;
-
 /// Asks as often as is wanted, prints what came, and gives the exit status. The error is that of a fault, which was printed.
 pub fn query_status(rt: &HostRuntime, asked: &Asked<'_>) -> Result<u8, u8> {
-    let faults = Faults::new(rt, asked.is_check);
+    let is_check = asked.is_check;
+    let faults = Faults { rt, is_check };
     let mut asker = match asked.key {
         Some((path, number)) => {
             let key = read_key(path, number, faults)?;
@@ -26,11 +21,9 @@ pub fn query_status(rt: &HostRuntime, asked: &Asked<'_>) -> Result<u8, u8> {
         }
         None => Asker::Unsigned(Stamp(0)),
     };
-    let mut link = UdpLink::bind(rt, asked.source, asked.timeout).map_err(|error| faults.of_system(
-        asked.source,
-        &error,
-    ))?;
+    let at_source = |error: io::Error| faults.of_system(asked.source, &error);
     let at_server = |error: io::Error| faults.of_system(asked.server_word, &error);
+    let mut link = UdpLink::bind(rt, asked.source, asked.timeout).map_err(at_source)?;
     link.connect(asked.host, asked.port).map_err(at_server)?;
     let mut outcomes = Vec::new(rt.alloc());
     for place in 0..asked.count {
@@ -40,21 +33,16 @@ pub fn query_status(rt: &HostRuntime, asked: &Asked<'_>) -> Result<u8, u8> {
         let outcome = link.query(&mut asker).map_err(at_server)?;
         if asked.json {
             faults.print(outcome_line(rt.alloc(), asked, &outcome).map_err(|_| faults.memory())?)?;
-        } else if !asked.is_check {
+        } else if !is_check {
             faults.print(outcome)?;
         }
         outcomes.push(outcome).map_err(|_| faults.memory())?;
     }
-    end_status(asked, &outcomes, faults)
-}
-
-// Prints what all came to, and gives the exit status.
-fn end_status(asked: &Asked<'_>, outcomes: &[Outcome], faults: Faults<'_>) -> Result<u8, u8> {
-    let least = least_delay(outcomes);
+    let least = least_delay(&outcomes);
     let samples = outcomes.iter().filter(|it| it.answer().is_some()).count();
     let samples = u32::try_from(samples).unwrap_or(u32::MAX);
     let queries = asked.count;
-    if asked.is_check {
+    if is_check {
         let without = queries.saturating_sub(samples);
         let verdict = verdict_of(&asked.most, &asked.warn, least, without);
         if !asked.json {
@@ -67,15 +55,13 @@ fn end_status(asked: &Asked<'_>, outcomes: &[Outcome], faults: Faults<'_>) -> Re
         }
         return Ok(check_status(verdict));
     }
-    let Some(answer) = least else {
-        return Ok(NO_SAMPLE);
-    };
-    if queries > 1 && !asked.json {
+    if let (Some(answer), true) = (least, queries > 1 && !asked.json) {
         faults.print(Least {
             answer,
             samples,
             queries,
         })?;
     }
-    Ok(SAMPLED)
+    // The status is 0 where a query gave a sample, and 1 where none did.
+    Ok(u8::from(least.is_none()))
 }

@@ -1,5 +1,4 @@
 //! A link over a UDP socket.
-ghost use Rattle.std.specs.Prelude.{◌≤◌, IfOk, IfSome};
 
 use ntp_host::moment_now;
 use ntp_packet::Moment;
@@ -46,13 +45,11 @@ impl<'a> UdpLink<'a> {
 
     /// Joins it to the first IPv4 address of a host, at a UDP port. The system looks names up.
     pub fn connect(&self, host: &str, port: u16) -> io::Result<()> {
+        let missing = "the name has no IPv4 address";
         let mut addresses = (host, port).to_socket_addrs(self.rt)?;
         match addresses.find(SocketAddr::is_ipv4) {
             Some(address) => self.socket.connect(address),
-            None => Err(io::Error::new(
-                ErrorKind::AddrNotAvailable,
-                "the name has no IPv4 address",
-            )),
+            None => Err(io::Error::new(ErrorKind::AddrNotAvailable, missing)),
         }
     }
 
@@ -61,72 +58,32 @@ impl<'a> UdpLink<'a> {
         self.begin(Duration::from_nanos(nanos));
         let mut room = empty_room();
         for _ in 0..u64::MAX {
-            if self.received(&mut room)?.is_none() {
+            if self.receive(&mut room).is_none() {
                 break;
             }
         }
-        Ok(())
+        self.fault.take().map_or(Ok(()), Err)
     }
 
     /// Sends one request, and waits for what comes of it: in the place of silence, what the network said. It fails if the
     /// request could not be sent, or a receive failed.
     pub fn query(&mut self, asker: &mut Asker) -> io::Result<Outcome> {
-        let outcome = ask(asker, self)?;
-        match self.fault.take() {
-            Some(error) => Err(error),
-            None => Ok(outcome.or_unreachable(self.said)),
-        }
+        let outcome = ask(asker, self)?.or_unreachable(self.said);
+        self.fault.take().map_or(Ok(outcome), Err)
     }
 
     // Receives for `time` from now on.
     fn begin(&mut self, time: Duration) {
         self.left = u64::MAX;
-        self.end = Instant::now(self.rt)
-            .ok()
-            .and_then(|now| now.checked_add(time));
+        let now = Instant::now(self.rt).ok();
+        self.end = now.and_then(|now| now.checked_add(time));
     }
 
     // How long it still receives; nothing where that is over.
     fn time_left(&self) -> Option<Duration> {
         let now = Instant::now(self.rt).ok()?;
         let left = self.end?.checked_duration_since(now)?;
-        if left.is_zero() { None } else { Some(left) }
-    }
-
-    // Receives for `left` at most.
-    fn receive_within(&self, room: &mut Room, left: Duration) -> io::Result<usize>
-        ensures { IfOk result (λ length. length ≤ 1025) }
-    {
-        self.socket.set_read_timeout(Some(left))?;
-        self.socket.recv(room)
-    }
-
-    // The next datagram; nothing where none came in time. What the network says of the server is not authentic, and ends no wait;
-    // nor does a signal.
-    fn received(&mut self, room: &mut Room) -> io::Result<Option<Received>>
-        ensures { IfOk result (λ received. IfSome received (λ it. it.length ≤ 1025)) }
-    {
-        for _ in 0..u64::MAX {
-            let Some(left) = self.time_left() else {
-                break;
-            };
-            match self.receive_within(room, left) {
-                Ok(length) => {
-                    let at = moment_now(&self.rt);
-                    return Ok(Some(Received { length, at }));
-                }
-                Err(error) => match said_in(&error) {
-                    Some(said) => self.said = Some(said),
-                    None
-                        if matches!(
-                            error.kind(),
-                            ErrorKind::WouldBlock | ErrorKind::TimedOut | ErrorKind::Interrupted
-                        ) => {}
-                    None => return Err(error),
-                },
-            }
-        }
-        Ok(None)
+        (!left.is_zero()).then_some(left)
     }
 }
 
@@ -148,14 +105,31 @@ impl<'a> Link for UdpLink<'a> {
         sent.map(|_| ())
     }
 
+    /// Receives it. What the network says of the server is not authentic, and ends no wait; nor does a signal.
     fn receive(&mut self, room: &mut Room) -> Option<Received> {
         let left = self.left.checked_sub(1)?;
-        let received = self.received(room);
-        self.left = left;
-        received.unwrap_or_else(|error| {
-            self.fault = Some(error);
-            None
-        })
+        for _ in 0..u64::MAX {
+            let error = match self.socket.set_read_timeout(Some(self.time_left()?)) {
+                Ok(()) => match self.socket.recv(room) {
+                    Ok(length) => {
+                        self.left = left;
+                        let at = moment_now(&self.rt);
+                        return Some(Received { length, at });
+                    }
+                    Err(error) => error,
+                },
+                Err(error) => error,
+            };
+            match (said_in(&error), error.kind()) {
+                (Some(said), _) => self.said = Some(said),
+                (_, ErrorKind::WouldBlock | ErrorKind::TimedOut | ErrorKind::Interrupted) => {}
+                _ => {
+                    self.fault = Some(error);
+                    return None;
+                }
+            }
+        }
+        None
     }
 }
 

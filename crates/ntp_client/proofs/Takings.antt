@@ -31,12 +31,6 @@ pub paired-taken : (key : SymmetricKey) (number : ℕ) (q : Outstanding) (r : Re
     → packet_steps key number q r at ≡ tail_steps key number p r (sample_of q p r.header at)
 paired-taken key number q r at p mode version paired = grind (arith, eq-eqb)
 
--- by what is seen of its header and by its sample
-pub judged-taken : (key : SymmetricKey) (number : ℕ) (q : Outstanding) (r : RequestValue) (at : Moment) (p : Pairing) (h : HeaderFields)
-    (s : Sample) → h ≡ r.header → h.mode ≡ 4 → h.version ≡ 4 → pairing_of q h.origin ≡ Some p → s ≡ sample_of q p h at
-    → tail_steps key number p r s ≡ packet_steps key number q r at
-judged-taken key number q r at p h s same mode version paired is = grind (arith, paired-taken)
-
 -- and a signed one for what its header says
 pub signed-taken : (key : SymmetricKey) (number : ℕ) (p : Pairing) (r : RequestValue) (x : Sample) → IsSigned key number r
     → tail_steps key number p r x ≡ authentic_steps p r.header x

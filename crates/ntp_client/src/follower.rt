@@ -1,16 +1,13 @@
 //! A follower of the host's clock daemon.
-ghost use Rattle.std.specs.Prelude.{◌≡◌, ◌<◌, Some, option_and_then, option_copied, option_map};
+ghost use Rattle.std.specs.Prelude.{◌≡◌, ◌<◌, option_and_then, option_copied, option_map};
 ghost use Rattle.ntp_packet.specs.Request.{RequestValue, IsRequest};
 ghost use Rattle.ntp_mac.specs.Signed.{IsSigned};
 ghost use Rattle.ntp_client.specs.{Query.query_octets, Sample.IsTimeReply, Watching.is_set_since};
 ghost use Rattle.ntp_client.specs.Taking.{taken_for};
 ghost use Rattle.ntp_client.specs.InForce.{age, reference_age, root_distance_twice, is_followed, doubt_of, in_force};
-ghost use Rattle.ntp_client.specs.Learning.{new_follower, looked, rests_before, has_to_read_anew, question, asked, root_delay_by, base_of, learned_of, took, period};
+ghost use Rattle.ntp_client.specs.Learning.{new_follower, looked, has_to_read_anew, question, asked, root_delay_by, learned_of, took, period};
 
-use crate::believing::{reference_age, root_distance_twice};
 use crate::doubt::doubt_of;
-use crate::growing::age;
-use crate::pacing::period;
 use crate::{
     Client, ClockAnswer, ClockLimits, ClockWatch, Distrust, Doubt, Outgoing, Reading, Sample,
     Taken, TakenPacket, is_read, state_in_force,
@@ -22,6 +19,15 @@ use std::marker::Model;
 
 /// How many units of 2^-32 seconds a unit of 2^-16 seconds has.
 const SHORT_UNITS: u128 = 1 << 16;
+
+/// How long after a question the next one is due, in nanoseconds: a second (profile).
+const PERIOD: u64 = 1_000_000_000;
+
+/// How long that is where the daemon asked for fewer questions (profile).
+const SLOW_PERIOD: u64 = 8 * PERIOD;
+
+/// How long that holds, in nanoseconds: an hour (profile).
+const SLOW_FOR: u64 = 3_600 * PERIOD;
 
 /// A follower of the host's clock daemon. Contracts see what it knows: the client that asks the daemon, the
 /// limits, how the host's clock was set, the last answer, and when the daemon last asked for fewer questions.
@@ -71,7 +77,7 @@ impl Follower {
     {
         is_read(shown.clock)
             && (self.watch.is_set_since(shown)
-                || rests_before(self.learned.as_ref(), self.watch.set))
+                || matches!((&self.learned, self.watch.set), (Some(answer), Some(set)) if answer.base.ticks < set.ticks))
     }
 
     /// Looks whether the host's clock was set, and says it. Where it was, no question waits any longer, and the daemon has to show
@@ -119,19 +125,13 @@ impl Follower {
             → self.new.learned ≡ self.old.learned }
     {
         let _is_set = self.look(now);
-        self.take_seen(octets, now)
-    }
-
-    // The same, once the clocks were looked at.
-    fn take_seen(&mut self, octets: &[u8], now: Reading) -> Taken
-        ensures taken { result ≡ taken_for self.old.client octets.now now.clock }
-        ensures took { self.new ≡ took self.old octets.now now result }
-        ensures forged { ((reply : RequestValue) → IsRequest octets.now reply → ¬ IsSigned self.old.client.key self.old.client.number reply)
-            → self.new.learned ≡ self.old.learned }
-    {
         let TakenPacket { taken, header } = self.client.take_packet(octets, now.clock);
         match taken {
-            Taken::Sample(sample) => self.learn(&header.unwrap(), sample),
+            Taken::Sample(sample) => {
+                let header = header.unwrap();
+                self.learned = self.learned_of(&header, sample);
+                self.watch.told = Some(header.reference());
+            }
             Taken::Refused(Distrust::Unsynchronised) => {
                 self.learned = None;
                 self.watch.told = Some(Stamp(0));
@@ -142,15 +142,27 @@ impl Follower {
         taken
     }
 
-    // Learns of a sample and the header of its packet.
-    fn learn(&mut self, header: &Header, sample: Sample)
-        ensures { IsTimeReply header.now → self.new ≡ record self.old {
-          watch = record self.old.watch { told = Some header.now.clock.reference };
-          learned = learned_of self.old.watch self.old.learned header.now sample;
-        } }
+    // What is learned of a time reply to the last question, with this header. It rests on that question's reading, where it shows an update,
+    // else on what the last answer does.
+    fn learned_of(&self, header: &Header, sample: Sample) -> Option<ClockAnswer>
+        ensures { IsTimeReply header.now → result ≡ learned_of self.now.watch self.now.learned header.now sample }
     {
-        self.learned = learned_of(&self.watch, self.learned.as_ref(), header, sample);
-        self.watch.told = Some(header.reference());
+        let question = self.watch.seen?;
+        let (reference, sent) = (header.reference(), header.transmit());
+        let is_update = self.watch.shows_update(reference, sent);
+        let last = self.learned.map(|answer| answer.base);
+        let base = is_update.then_some(question).or(last)?;
+        let fields = ClockFields {
+            root_delay: root_delay_by(header, sample),
+            ..header.clock()
+        };
+        Some(ClockAnswer {
+            state: Reference::of(fields).ok()?,
+            offset_twice: sample.offset_twice(),
+            sent,
+            ticks: question.ticks,
+            base,
+        })
     }
 
     /// How long after a question the next one is due when the monotonic clock shows `ticks`, in nanoseconds: a second, and eight for an
@@ -158,7 +170,10 @@ impl Follower {
     pub fn period(&self, ticks: u64) -> u64
         ensures { result ≡ period self.now.slowed ticks }
     {
-        period(self.slowed, ticks)
+        match self.slowed {
+            Some(slowed) if ticks.saturating_sub(slowed) < SLOW_FOR => SLOW_PERIOD,
+            _ => PERIOD,
+        }
     }
 
     /// The reference state that replies tell, as `state_in_force` says.
@@ -173,20 +188,14 @@ impl Follower {
     pub fn is_followed(&self, now: Reading) -> bool
         ensures { result ≡ is_followed self.now.limits self.now.learned now }
     {
-        let limits = &self.limits;
-        self.learned
-            .as_ref()
-            .is_some_and(|answer| doubt_of(limits, answer, now).is_none())
+        self.learned.is_some() && self.doubt(now).is_none()
     }
 
     /// Why the last answer is not believed, if there is one and it is not: the first reason that applies.
     pub fn doubt(&self, now: Reading) -> Option<Doubt>
         ensures { result ≡ option_and_then (λ answer. doubt_of self.now.limits answer now) self.now.learned }
     {
-        let limits = &self.limits;
-        self.learned
-            .as_ref()
-            .and_then(|answer| doubt_of(limits, answer, now))
+        doubt_of(&self.limits, self.learned.as_ref()?, now)
     }
 
     /// The last answer that was learned.
@@ -200,25 +209,21 @@ impl Follower {
     pub fn age(&self, ticks: u64) -> Option<u64>
         ensures { result ≡ option_map (λ answer. age answer ticks) self.now.learned }
     {
-        self.learned.as_ref().map(|answer| age(answer, ticks))
+        self.learned.map(|answer| answer.age(ticks))
     }
 
     /// How long ago the daemon's clock was set, by that answer and the host's clock, in units of 2^-32 seconds.
     pub fn reference_age(&self, now: Reading) -> Option<i64>
         ensures { result ≡ option_map (λ answer. reference_age answer now) self.now.learned }
     {
-        self.learned
-            .as_ref()
-            .map(|answer| reference_age(answer, now))
+        self.learned.map(|answer| answer.reference_age(now))
     }
 
     /// Twice the root distance of that answer by now, in units of 2^-16 seconds.
     pub fn root_distance_twice(&self, now: Reading) -> Option<u64>
         ensures { result ≡ option_map (λ answer. root_distance_twice answer now) self.now.learned }
     {
-        self.learned
-            .as_ref()
-            .map(|answer| root_distance_twice(answer, now))
+        self.learned.map(|answer| answer.root_distance_twice(now))
     }
 
     /// The limits within which an answer is believed.
@@ -229,41 +234,6 @@ impl Follower {
     }
 }
 
-// Whether what was learned rests on a reading from before the host's clock was last seen to be set.
-fn rests_before(learned: Option<&ClockAnswer>, set: Option<Reading>) -> bool
-    ensures { result ≡ rests_before (option_copied learned.entry) set }
-{
-    match (learned, set) {
-        (Some(answer), Some(set)) => answer.base.ticks < set.ticks,
-        _ => false,
-    }
-}
-
-// What is learned of a time reply to the last question, with this header.
-fn learned_of(
-    watch: &ClockWatch,
-    learned: Option<&ClockAnswer>,
-    header: &Header,
-    sample: Sample,
-) -> Option<ClockAnswer>
-    ensures { IsTimeReply header.now → result ≡ learned_of watch.now (option_copied learned.entry) header.now sample }
-{
-    let question = watch.seen?;
-    let base = base_of(watch, learned, header, question)?;
-    let fields = ClockFields {
-        root_delay: root_delay_by(header, sample),
-        ..header.clock()
-    };
-    let state = Reference::of(fields).ok()?;
-    Some(ClockAnswer {
-        state,
-        offset_twice: sample.offset_twice(),
-        sent: header.transmit(),
-        ticks: question.ticks,
-        base,
-    })
-}
-
 // The root delay by way of a time reply: the one that it tells, and the delay of the exchange.
 fn root_delay_by(header: &Header, sample: Sample) -> Short
     ensures { result ≡ root_delay_by header.now sample }
@@ -271,19 +241,4 @@ fn root_delay_by(header: &Header, sample: Sample) -> Short
     let delay = sample.delay().unsigned_abs().div_ceil(SHORT_UNITS);
     let sum = u128::from(header.root_delay().0) + delay;
     Short(sum.min(u128::from(u32::MAX)) as u32)
-}
-
-// What a time reply to the question of a reading rests on.
-fn base_of(
-    watch: &ClockWatch,
-    learned: Option<&ClockAnswer>,
-    header: &Header,
-    question: Reading,
-) -> Option<Reading>
-    ensures { result ≡ base_of watch.now (option_copied learned.entry) header.now question }
-{
-    if watch.shows_update(header.reference(), header.transmit()) {
-        return Some(question);
-    }
-    learned.map(|answer| answer.base)
 }

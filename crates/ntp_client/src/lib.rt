@@ -7,16 +7,13 @@
 #![tactic(auto)]
 
 mod answer;
-mod believing;
 mod client;
 mod doubt;
 mod exchange;
 mod follower;
-mod growing;
 mod judging;
 mod laws;
 mod limits;
-mod pacing;
 mod pairing;
 mod query;
 mod reading;

@@ -31,10 +31,7 @@ pub(crate) fn pairing_of(asked: Outstanding, origin: Stamp) -> Option<Pairing>
 pub(crate) fn is_basic(pairing: Pairing) -> bool
     ensures { result ≡ is_basic pairing }
 {
-    match pairing {
-        Pairing::Basic => true,
-        Pairing::Interleaved(_) => false,
-    }
+    matches!(pairing, Pairing::Basic)
 }
 
 // The exchange of a request with the reply that arrived at a moment.

@@ -1,6 +1,6 @@
 //! The request of a client.
 ghost use Rattle.std.specs.Prelude.{◌≡◌};
-ghost use Rattle.ntp_client.specs.Query.{origin_of, receive_of, transmit_of, query_fields};
+ghost use Rattle.ntp_client.specs.Query.{transmit_of, query_fields};
 
 use crate::exchange::{Exchange, Outstanding};
 use ntp_packet::{Header, Moment, Stamp, fresh};
@@ -14,29 +14,15 @@ const CLIENT_MODE: u8 = 3;
 /// The poll interval that a request tells: 2^6 seconds (profile).
 const POLL: i8 = 6;
 
-// The header of a request.
+// The header of a request. Its origin and receive stamps are those of the exchange that it carries, or none.
 pub(crate) fn query_header(asked: Outstanding) -> Header
     ensures { result ≡ query_fields asked }
 {
     Header::blank(VERSION, CLIENT_MODE)
         .with_poll(POLL)
-        .with_origin(origin_of(asked.earlier))
-        .with_receive(receive_of(asked.earlier))
+        .with_origin(asked.earlier.map_or(Stamp(0), |exchange| exchange.receive))
+        .with_receive(asked.earlier.map_or(Stamp(0), |exchange| exchange.arrival))
         .with_transmit(asked.transmit)
-}
-
-// The origin stamp of a request that carries an exchange, or none.
-fn origin_of(earlier: Option<Exchange>) -> Stamp
-    ensures { result ≡ origin_of earlier }
-{
-    earlier.map_or(Stamp(0), |exchange| exchange.receive)
-}
-
-// The receive stamp of a request that carries an exchange, or none.
-fn receive_of(earlier: Option<Exchange>) -> Stamp
-    ensures { result ≡ receive_of earlier }
-{
-    earlier.map_or(Stamp(0), |exchange| exchange.arrival)
 }
 
 // The transmit stamp of a request that carries an exchange, or none.

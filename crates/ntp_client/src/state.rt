@@ -4,7 +4,6 @@ ghost use Rattle.ntp_client.specs.InForce.{unsynchronised, is_read, told_with, p
 ghost use Rattle.ntp_client.specs.Taking.{is_synchronised};
 
 use crate::doubt::doubt_of;
-use crate::growing::dispersion;
 use crate::{ClockAnswer, ClockLimits, Reading};
 use ntp_packet::{ClockFields, Moment, Short, Stamp};
 use ntp_reply::Reference;
@@ -84,7 +83,7 @@ fn grown(answer: &ClockAnswer, now: Reading) -> Reference
 {
     let fields = ClockFields {
         precision: precision_told(answer.state.precision()),
-        root_dispersion: Short(dispersion(answer, now)),
+        root_dispersion: Short(answer.dispersion(now)),
         ..answer.state.fields()
     };
     Reference::of(fields).unwrap()
@@ -95,9 +94,5 @@ fn grown(answer: &ClockAnswer, now: Reading) -> Reference
 fn precision_told(precision: i8) -> i8
     ensures { result ≡ precision_told precision }
 {
-    if precision <= BEST_PRECISION {
-        BEST_PRECISION
-    } else {
-        precision
-    }
+    precision.max(BEST_PRECISION)
 }

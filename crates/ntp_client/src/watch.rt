@@ -1,6 +1,6 @@
 //! Whether the host's clock was set, and whether the daemon shows an update since.
 ghost use Rattle.std.specs.Prelude.{◌≡◌};
-ghost use Rattle.ntp_client.specs.Watching.{new_watch, is_set_since, after_set, is_another, is_behind, shows_update};
+ghost use Rattle.ntp_client.specs.Watching.{new_watch, is_set_since, after_set, shows_update};
 
 use crate::Reading;
 use crate::reading::apart;
@@ -47,39 +47,19 @@ impl ClockWatch {
     pub(crate) fn is_set_since(&self, now: Reading) -> bool
         ensures { result ≡ is_set_since self.now.seen now }
     {
-        match self.seen {
-            Some(seen) => apart(seen, now) > MOST_APART,
-            None => false,
-        }
+        self.seen.is_some_and(|seen| apart(seen, now) > MOST_APART)
     }
 
-    // Whether an answer with this reference time, which was sent then, shows an update since the clock was set.
+    // Whether an answer with this reference time, which was sent then, shows an update since the clock was set: that is another time than
+    // the daemon told since, and lies neither before the setting nor behind the answer.
     pub(crate) fn shows_update(&self, reference: Stamp, sent: Stamp) -> bool
         ensures { result ≡ shows_update self.now reference sent }
     {
         reference.0 != 0
-            && is_another(self.told, reference)
-            && is_behind(self.set, reference)
+            && self.told.is_some_and(|told| reference != told)
+            && self
+                .set
+                .is_none_or(|set| difference(reference, set.clock.stamp) >= 0)
             && difference(reference, sent) <= 0
-    }
-}
-
-// Whether a reference time is another one than the daemon told since the clock was set.
-fn is_another(told: Option<Stamp>, reference: Stamp) -> bool
-    ensures { result ≡ is_another told reference }
-{
-    match told {
-        Some(told) => reference.0 != told.0,
-        None => false,
-    }
-}
-
-// Whether a reference time is not before the clock was seen to be set.
-fn is_behind(set: Option<Reading>, reference: Stamp) -> bool
-    ensures { result ≡ is_behind set reference }
-{
-    match set {
-        Some(set) => difference(reference, set.clock.stamp) >= 0,
-        None => true,
     }
 }

@@ -1,8 +1,7 @@
 //! Who asks a server.
 ghost use Rattle.std.specs.Prelude.{◌≡◌, false};
-ghost use Rattle.ntp_query.specs.Asker.{request_octets, after_request, is_kiss, judged, judged_as_read, heard_by};
+ghost use Rattle.ntp_query.specs.Asker.{request_octets, after_request, is_kiss, judged, heard_by};
 ghost use Rattle.ntp_query.specs.Outcome.{ends};
-ghost use Rattle.ntp_mac.specs.Reading.{reading_of};
 ghost use Rattle.ntp_client.specs.Taking.{is_synchronised};
 
 use crate::reference::code_of;
@@ -43,18 +42,11 @@ impl Asker {
     {
         match self {
             Asker::Signed(client) => hear(client, octets, at),
-            Asker::Unsigned(transmit) => hear_unsigned(*transmit, octets, at),
+            Asker::Unsigned(transmit) => match read_request(octets) {
+                Ok(reply) => judge(*transmit, &reply.header, at),
+                Err(fault) => Outcome::Refused(Distrust::Malformed(fault)),
+            },
         }
-    }
-}
-
-// What octets come to that arrive at a moment after an unsigned request.
-fn hear_unsigned(transmit: Stamp, octets: &[u8], at: Moment) -> Outcome
-    ensures { result ≡ judged_as_read transmit at (reading_of octets.now) }
-{
-    match read_request(octets) {
-        Ok(reply) => judge(transmit, &reply.header, at),
-        Err(fault) => Outcome::Refused(Distrust::Malformed(fault)),
     }
 }
 

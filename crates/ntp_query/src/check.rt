@@ -1,9 +1,10 @@
-//! Whether a server is well, by limits.
-ghost use Rattle.std.specs.Prelude.{◌≡◌, unsigned_abs};
-ghost use Rattle.ntp_query.specs.Answer.{offset_of, root_distance_of};
-ghost use Rattle.ntp_query.specs.Check.{is_above, passed_by, verdict_of, check_status};
+//! Whether a server is well, by limits, and the line of a check, as monitoring reads it.
+ghost use Rattle.std.specs.Prelude.{◌≡◌};
+ghost use Rattle.ntp_query.specs.Check.{passed_by, verdict_of, check_status};
 
-use crate::Answer;
+use crate::outcome_text::{trust_text, write_figures};
+use crate::{Answer, Outcome};
+use std::fmt;
 
 /// Limits of what a server tells: nothing is limited that is `None`. Times are in nanoseconds.
 #[derive(Clone, Copy)]
@@ -52,39 +53,30 @@ pub fn verdict_of(most: &Limits, warn: &Limits, least: Option<Answer>, without: 
     let Some(answer) = least else {
         return Verdict::Critical(Cause::NoSample);
     };
-    if let Some(measure) = passed_by(most, &answer) {
-        return Verdict::Critical(Cause::Above(measure));
+    match (passed_by(most, &answer), passed_by(warn, &answer)) {
+        (Some(measure), _) => Verdict::Critical(Cause::Above(measure)),
+        (None, Some(measure)) => Verdict::Warning(Cause::Above(measure)),
+        (None, None) if without > 0 => Verdict::Warning(Cause::Missing),
+        (None, None) => Verdict::Well,
     }
-    if let Some(measure) = passed_by(warn, &answer) {
-        return Verdict::Warning(Cause::Above(measure));
-    }
-    if without > 0 {
-        return Verdict::Warning(Cause::Missing);
-    }
-    Verdict::Well
 }
 
 // The first of the measures that is above its limit.
 fn passed_by(limits: &Limits, answer: &Answer) -> Option<Measure>
     ensures { result ≡ passed_by limits.now answer.now }
 {
-    let root_distance = answer.root_distance().0.unsigned_abs();
-    if is_above(limits.offset, answer.offset().0.unsigned_abs()) {
+    let offset = answer.offset().0.unsigned_abs();
+    let stratum = u64::from(answer.clock.stratum);
+    let distance = answer.root_distance().0.unsigned_abs();
+    if limits.offset.is_some_and(|limit| offset > limit) {
         Some(Measure::Offset)
-    } else if is_above(limits.stratum, u64::from(answer.clock.stratum)) {
+    } else if limits.stratum.is_some_and(|limit| stratum > limit) {
         Some(Measure::Stratum)
-    } else if is_above(limits.root_distance, root_distance) {
+    } else if limits.root_distance.is_some_and(|limit| distance > limit) {
         Some(Measure::RootDistance)
     } else {
         None
     }
-}
-
-// Whether a value is above its limit.
-fn is_above(limit: Option<u64>, value: u64) -> bool
-    ensures { result ≡ is_above limit value }
-{
-    limit.is_some_and(|limit| value > limit)
 }
 
 /// The exit status of a check: 0 well, 1 a warning, 2 critical (Monitoring Plugins).
@@ -95,5 +87,49 @@ pub fn check_status(verdict: Verdict) -> u8
         Verdict::Well => 0,
         Verdict::Warning(_) => 1,
         Verdict::Critical(_) => 2,
+    }
+}
+
+/// A check, as monitoring reads it (Monitoring Plugins). It prints in a line without its end.
+#[derive(Clone, Copy)]
+pub struct Check {
+    /// Whether the server is well.
+    pub verdict: Verdict,
+    /// The sample of least delay, if there is one.
+    pub least: Option<Answer>,
+    /// What came of the last query.
+    pub latest: Outcome,
+}
+
+impl fmt::Display for Check {
+    fn fmt<W: fmt::Write>(&self, f: &mut fmt::Formatter<W>) -> fmt::Result {
+        let (word, why) = match self.verdict {
+            Verdict::Well => ("OK", ""),
+            Verdict::Warning(cause) => ("WARNING", cause_text(cause)),
+            Verdict::Critical(cause) => ("CRITICAL", cause_text(cause)),
+        };
+        write!(f, "NTP {word}: {why}")?;
+        let Some(answer) = self.least else {
+            return write!(f, "{}", self.latest);
+        };
+        f.write_str(trust_text(&answer))?;
+        write_figures(f, &answer)?;
+        let (offset, delay) = (answer.offset(), answer.delay());
+        let (stratum, root_distance) = (answer.clock.stratum, answer.root_distance());
+        write!(
+            f,
+            " | offset={offset}s delay={delay}s stratum={stratum} root_distance={root_distance}s"
+        )
+    }
+}
+
+// What is wrong.
+fn cause_text(cause: Cause) -> &'static str {
+    match cause {
+        Cause::NoSample => "no sample, ",
+        Cause::Above(Measure::Offset) => "offset above its limit, ",
+        Cause::Above(Measure::Stratum) => "stratum above its limit, ",
+        Cause::Above(Measure::RootDistance) => "root distance above its limit, ",
+        Cause::Missing => "not every query gave a sample, ",
     }
 }

@@ -1,12 +1,12 @@
 //! A key file in the form of chrony (chrony.conf(5), `keyfile`).
-ghost use Rattle.std.specs.Prelude.{◌≡◌, map, IfOk};
+ghost use Rattle.std.specs.Prelude.{◌≡◌, [], ◌∷◌, map, IfOk, MatchOption};
 ghost use Rattle.std.specs.Option.{option_map};
-ghost use Rattle.ntp_query.specs.KeyFile.{space_for, is_key_line, algorithm_of, key_octets, key_in_words, key_in_line, key_in_text};
+ghost use Rattle.ntp_query.specs.KeyFile.{space_for, words, is_key_line, algorithm_of, key_octets, key_in_words, key_in_line, key_in_text};
 
-use crate::key_words::KeyWords;
 use ntp_admin::words;
 use ntp_mac::{Algorithm, Key};
 use std::alloc::{AllocError, Global};
+use std::marker::Model;
 
 /// Why a key file gives no key with a number.
 #[derive(Clone, Copy)]
@@ -83,17 +83,13 @@ fn key_in_words(text: &str) -> Result<Key, KeyLineFault>
     ensures { result ≡ key_in_words text.now }
 {
     let mut words = KeyWords::new(text);
-    let _number = words.next().ok_or(KeyLineFault::Words)?;
-    let second = words.next().ok_or(KeyLineFault::Words)?;
-    match words.next() {
-        None => key_of(Algorithm::Md5, second).ok_or(KeyLineFault::Key),
-        Some(third) => {
-            if words.next().is_some() {
-                return Err(KeyLineFault::Words);
-            }
-            let algorithm = algorithm_of(second).ok_or(KeyLineFault::Algorithm)?;
-            key_of(algorithm, third).ok_or(KeyLineFault::Key)
+    match (words.next(), words.next(), words.next(), words.next()) {
+        (Some(_), Some(key), None, None) => key_of(Algorithm::Md5, key).ok_or(KeyLineFault::Key),
+        (Some(_), Some(name), Some(key), None) => {
+            let algorithm = algorithm_of(name).ok_or(KeyLineFault::Algorithm)?;
+            key_of(algorithm, key).ok_or(KeyLineFault::Key)
         }
+        _ => Err(KeyLineFault::Words),
     }
 }
 
@@ -118,5 +114,45 @@ fn key_of(algorithm: Algorithm, word: &str) -> Option<Key>
     match word.strip_prefix("ASCII:") {
         Some(text) => Key::new(algorithm, text.as_bytes()).ok(),
         None => Key::new(algorithm, word.as_bytes()).ok(),
+    }
+}
+
+// The words of a line that are still to be read: what stands between spaces. Several spaces may stand in a row.
+#[derive(Drop)]
+struct KeyWords<'a> {
+    rest: &'a str,
+}
+
+impl<'a> Model for KeyWords<'a> {
+    ghost use Rattle.std.specs.Prelude.{ℕ, List};
+    ghost use Rattle.ntp_query.specs.KeyFile.{words};
+
+    ghost Value = { List (List ℕ) };
+
+    ghost view = { λ w. words w.rest.now };
+}
+
+impl<'a> KeyWords<'a> {
+    // The words of a line.
+    fn new(line: &'a str) -> KeyWords<'a>
+        ensures { result ≡ words line.now }
+    {
+        KeyWords { rest: line }
+    }
+
+    // Takes the next word off.
+    fn next(&mut self) -> Option<&'a str>
+        ensures { MatchOption result ((self.old ≡ []) × (self.new ≡ [])) (λ word. self.old ≡ word.now ∷ self.new) }
+    {
+        let mut rest = self.rest;
+        while let Some((part, behind)) = rest.split_once(' ') {
+            rest = behind;
+            if !part.is_empty() {
+                self.rest = rest;
+                return Some(part);
+            }
+        }
+        self.rest = "";
+        if rest.is_empty() { None } else { Some(rest) }
     }
 }

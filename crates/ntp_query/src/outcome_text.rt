@@ -1,7 +1,8 @@
 //! What came of a query, in words.
 
-use crate::reasons::Reason;
 use crate::{Answer, Outcome, Reference, Unreached};
+use ntp_client::Distrust;
+use ntp_packet::Malformed;
 use std::fmt;
 
 /// The greatest offset that prints without a word on eras: 2^30 seconds, in nanoseconds.
@@ -42,7 +43,7 @@ impl Outcome {
     /// A word for why octets were not taken for a reply, or why the server is not reached.
     pub fn reason(&self) -> Option<&'static str> {
         match self {
-            Outcome::Refused(why) => Some(Reason(*why).word()),
+            Outcome::Refused(why) => Some(refusal_row(*why).0),
             Outcome::Unreachable(Unreached::Port) => Some("port"),
             Outcome::Unreachable(Unreached::Network) => Some("network"),
             _ => None,
@@ -74,20 +75,58 @@ impl fmt::Display for Outcome {
                 write!(f, ", reference {reference}, leap {}", answer.clock.leap)
             }
             (Outcome::Kiss(_), Some(code)) => write!(f, "{code}, if this is from the server"),
-            (Outcome::Refused(why), _) => write!(f, "{}", Reason(*why)),
+            (Outcome::Refused(why), _) => write_refusal(f, *why),
             _ => Ok(()),
         }
+    }
+}
+
+// The word for why octets were not taken for a reply, and its sentence; of a fault at a place, what stands behind the place.
+fn refusal_row(why: Distrust) -> (&'static str, &'static str) {
+    match why {
+        Distrust::NothingAsked => ("nothing-asked", "nothing was asked"),
+        Distrust::Malformed(fault) => match fault {
+            Malformed::Short => ("short", "it has fewer than 48 octets"),
+            Malformed::Long => ("long", "it has more than 1024 octets"),
+            Malformed::FieldShort { .. } => ("field-short", "is too short"),
+            Malformed::FieldUnaligned { .. } => {
+                ("field-unaligned", "has a length that is no multiple of 4")
+            }
+            Malformed::FieldPastEnd { .. } => ("field-past-end", "goes on past its end"),
+            Malformed::Rest { .. } => ("rest", "on is no MAC"),
+        },
+        Distrust::Mode => ("mode", "it is not from a server: its mode is not 4"),
+        Distrust::Version => ("version", "its version is not 4"),
+        Distrust::Origin => ("origin", "it is no reply to this query"),
+        Distrust::Unsigned => ("unsigned", "it is not signed"),
+        Distrust::Mac => ("mac", "it is not signed with this key"),
+        Distrust::Unsynchronised => ("unsynchronised", "the server's clock is not synchronised"),
+        Distrust::Stamps => ("stamps", "it tells no time"),
+    }
+}
+
+// Writes why octets were not taken for a reply, in a sentence without its end.
+fn write_refusal<W: fmt::Write>(f: &mut fmt::Formatter<W>, why: Distrust) -> fmt::Result {
+    let (_, text) = refusal_row(why);
+    match why {
+        Distrust::Malformed(
+            Malformed::FieldShort { at }
+            | Malformed::FieldUnaligned { at }
+            | Malformed::FieldPastEnd { at },
+        ) => write!(f, "its field at octet {at} {text}"),
+        Distrust::Malformed(Malformed::Rest { at }) => {
+            write!(f, "what it has from octet {at} {text}")
+        }
+        _ => f.write_str(text),
     }
 }
 
 // Writes the offset and the delay of an answer. An offset may be another one by an era, where it is so great (RFC 5905, 6).
 fn write_times<W: fmt::Write>(f: &mut fmt::Formatter<W>, answer: &Answer) -> fmt::Result {
     let (offset, delay) = (answer.offset(), answer.delay());
-    let is_certain = offset.0.unsigned_abs() <= MOST_CERTAIN;
-    let era = if is_certain {
-        ""
-    } else {
-        " (or one that differs by 136 years)"
+    let era = match offset.0.unsigned_abs() {
+        0..=MOST_CERTAIN => "",
+        _ => " (or one that differs by 136 years)",
     };
     write!(f, "offset {offset} s{era}, delay {delay} s")
 }

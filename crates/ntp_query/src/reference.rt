@@ -33,11 +33,8 @@ pub(crate) fn code_of(identifier: &[u8; 4]) -> &[u8]
     ensures { result.now ≡ code_of identifier.now }
 {
     let (text, fill) = identifier.split_at(text_length(identifier));
-    if are_printable(text) && are_zeros(fill) {
-        text
-    } else {
-        &[]
-    }
+    let is_code = are_printable(text) && are_zeros(fill);
+    if is_code { text } else { &[] }
 }
 
 // How many octets stand in front of the first 0.
@@ -54,7 +51,7 @@ fn first_zero(octets: &[u8]) -> Option<usize>
     ensures place { result ≡ position is_zero octets.now }
     ensures within { IfSome result (λ place. place < length octets.now) }
 {
-    octets.iter().position(|octet| is_zero(*octet))
+    octets.iter().position(|octet| *octet == 0)
 }
 
 // Whether octets are printable.
@@ -68,12 +65,5 @@ fn are_printable(octets: &[u8]) -> bool
 fn are_zeros(octets: &[u8]) -> bool
     ensures { result ≡ list_all is_zero octets.now }
 {
-    octets.iter().all(|octet| is_zero(*octet))
-}
-
-// Whether an octet is 0.
-fn is_zero(octet: u8) -> bool
-    ensures { result ≡ is_zero octet }
-{
-    octet == 0
+    octets.iter().all(|octet| *octet == 0)
 }

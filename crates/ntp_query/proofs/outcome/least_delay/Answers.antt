@@ -1,7 +1,7 @@
 use Rattle.std.proofs.Common.{subst, sym, ◌∙◌, ◌+◌}
 use Rattle.ntp_query.proofs.Leasts.{IsLeast, IsLeast-none, IsLeast-with, IsLeast-without, IsLeast-given, IsLeast-least, IsLeast-some}
-use Rattle.ntp_query.proofs.least.least_delay.Goals.{in-Some, in-None}
-use Rattle.ntp_query.proofs.least.least_delay.Goals as goal
+use Rattle.ntp_query.proofs.outcome.least_delay.Goals.{in-Some, in-None}
+use Rattle.ntp_query.proofs.outcome.least_delay.Goals as goal
 
 pub loop-outcome-init : goal.loop-outcome-init
 loop-outcome-init c = IsLeast-none _

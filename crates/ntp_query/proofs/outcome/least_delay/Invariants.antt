@@ -1,5 +1,5 @@
 use Rattle.ntp_query.proofs.Leasts.{IsLeast}
-use Rattle.ntp_query.proofs.least.least_delay.Given as goal
+use Rattle.ntp_query.proofs.outcome.least_delay.Given as goal
 
 abbrev pub invariant-loop-outcome : goal.invariant-loop-outcome
 invariant-loop-outcome l = IsLeast l.outcomes l.outcome-index l.least

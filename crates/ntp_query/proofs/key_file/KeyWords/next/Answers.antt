@@ -2,8 +2,8 @@ use Rattle.std.proofs.Common.{rules, ◌≡◌, true, false, sym, ◌∙◌, ari
 use Rattle.std.proofs.lemmas.Bool.Decides.{nat_tests}
 use Rattle.std.specs.Prelude.{nat_lt, MatchOption}
 use Rattle.ntp_query.proofs.KeyLines.{words-some, words-none, words-last, words-end, rest-shorter}
-use Rattle.ntp_query.proofs.key_words.KeyWords.next.Goals.{then-is_empty, else-is_empty}
-use Rattle.ntp_query.proofs.key_words.KeyWords.next.Goals as goal
+use Rattle.ntp_query.proofs.key_file.KeyWords.next.Goals.{then-is_empty, else-is_empty}
+use Rattle.ntp_query.proofs.key_file.KeyWords.next.Goals as goal
 
 pub returns-then-not-is_empty : goal.returns-then-not-is_empty
 returns-then-not-is_empty c =

@@ -3,7 +3,7 @@ use Rattle.std.specs.Prelude.{pos}
 use Rattle.std.proofs.lemmas.Int.{to_z_pos}
 use Rattle.ntp_query.specs.Answer.{nearest}
 use Rattle.ntp_query.proofs.Rounding.{nearest-small}
-use Rattle.ntp_query.proofs.nanos.nearest.Goals as goal
+use Rattle.ntp_query.proofs.answer.nearest.Goals as goal
 
 pub returns : goal.returns
 returns c =

@@ -1,5 +1,5 @@
 //! A server and a client meet in this process.
-ghost use Rattle.std.specs.Prelude.{◌≡◌, ◌≢◌};
+ghost use Rattle.std.specs.Prelude.{◌≡◌};
 ghost use Rattle.labntp_jobs.specs.Taken.{HasMet};
 
 use labntp_jobs::{LoopbackFault, meet};
@@ -17,23 +17,13 @@ pub fn loopback_status<R: Net + Clock, A: Allocator + Copy, W: Write, F: Write>(
     turns: u32,
     out: &mut W,
     faults: &mut F,
-) -> u8
-    ensures { result ≡ 0 → HasMet turns (W.contents out.old) (W.contents out.new) }
+) -> Status
+    ensures { result ≡ Status.Done → HasMet turns (W.contents out.old) (W.contents out.new) }
 {
     match meet(rt, alloc, turns, out) {
-        Ok(()) => Status::Done.code(),
-        Err(fault) => fault_status(fault, faults).code(),
-    }
-}
-
-// Tells why the meeting ended early, and gives the exit status.
-fn fault_status<F: Write>(fault: LoopbackFault, faults: &mut F) -> Status
-    ensures memory { fault ≡ LoopbackFault.NoMemory → result ≡ Status.MemoryOut }
-    ensures fails { result ≢ Status.Done }
-{
-    match fault {
-        LoopbackFault::NoMemory => memory_status(faults),
-        LoopbackFault::Socket => socket_status(faults),
-        LoopbackFault::Write => write_status(faults),
+        Ok(()) => Status::Done,
+        Err(LoopbackFault::NoMemory) => memory_status(faults),
+        Err(LoopbackFault::Socket) => socket_status(faults),
+        Err(LoopbackFault::Write) => write_status(faults),
     }
 }

@@ -27,7 +27,7 @@ fn main(rt: HostRuntime) -> ExitCode {
                 serve_status(&rt, rt.alloc(), &serving, &mut rt.stdout(), &mut faults).code()
             }
             Some(Job::Loopback { turns }) => {
-                loopback_status(&rt, rt.alloc(), turns, &mut rt.stdout(), &mut faults)
+                loopback_status(&rt, rt.alloc(), turns, &mut rt.stdout(), &mut faults).code()
             }
             None => usage_status(&mut faults).code(),
         },

@@ -1,6 +1,6 @@
 //! Customers are served over a socket.
 ghost use Rattle.std.specs.Prelude.{◌≡◌, ◌-◌, ◌<◌, ◌^◌};
-ghost use Rattle.ntp_port.specs.{declared.serving.Served.Served, Port.failed_calls, Sending.counted};
+ghost use Rattle.ntp_port.specs.{declared.serving.Served.Served, Sending.counted};
 
 use crate::whole_commands::WholeCommands;
 use labntp_jobs::Serving;
@@ -35,7 +35,7 @@ pub fn serve_status<R: Net + Files + Clock, W: Write, F: Write>(
     out: &mut W,
     faults: &mut F,
 ) -> Status {
-    let loaded = match load(rt, alloc, serving.register) {
+    let Loaded { reference, service } = match load(rt, alloc, serving.register) {
         Ok(loaded) => loaded,
         Err(fault) => return load_status(fault, faults),
     };
@@ -46,7 +46,22 @@ pub fn serve_status<R: Net + Files + Clock, W: Write, F: Write>(
     if writeln!(out, "serving 127.0.0.1:{number}").is_err() {
         return write_status(faults);
     }
-    let mut server = server(rt, socket, serving.commands, loaded, &mut *faults);
+    let mut server = Server {
+        port: UdpPort::new(SystemWire {
+            socket,
+            clock: rt,
+            queue: (),
+        }),
+        commands: WholeCommands::new(rt, serving.commands),
+        applied: 0,
+        reference: FixedReference(reference),
+        observer: Heard {
+            faults: FaultLines::new(&mut *faults),
+            arrivals: 0,
+            sent: 0,
+        },
+        service,
+    };
     server.serve(u64::from(serving.turns), &mut NoReports);
     let (arrivals, sent) = (server.observer.arrivals, server.observer.sent);
     drop(server);
@@ -85,16 +100,10 @@ impl<F: Write> Observer for Heard<F> {
 fn load<R: Files>(files: &R, alloc: Global, path: &str) -> Result<Loaded, LoadFault> {
     match read_regular_file(files, alloc, path, MOST_FILE_OCTETS as u32) {
         Ok(octets) => load_register(alloc, &octets),
-        Err(error) => Err(unread(&error)),
-    }
-}
-
-// Why a register file could not be read.
-fn unread(error: &io::Error) -> LoadFault {
-    if error.kind() == ErrorKind::OutOfMemory {
-        LoadFault::Register(RegisterFault::NoMemory)
-    } else {
-        LoadFault::Read
+        Err(error) if error.kind() == ErrorKind::OutOfMemory => {
+            Err(LoadFault::Register(RegisterFault::NoMemory))
+        }
+        Err(_) => Err(LoadFault::Read),
     }
 }
 
@@ -103,39 +112,4 @@ fn bound<R: Net>(net: &R, port: u16) -> io::Result<UdpSocket> {
     let socket = UdpSocket::bind(net, SocketAddrV4::new(Ipv4Addr::LOCALHOST, port))?;
     socket.set_read_timeout(Some(Duration::from_millis(LONGEST_WAIT)))?;
     Ok(socket)
-}
-
-// A server at a socket, with a register that was loaded and a commands file before its first read.
-fn server<'a, R: Files + Clock, F: Write>(
-    rt: &'a R,
-    socket: UdpSocket,
-    commands: &'a str,
-    loaded: Loaded,
-    faults: &'a mut F,
-) -> Server<
-    UdpPort<SystemWire<&'a R>>,
-    WholeCommands<'a, R>,
-    FixedReference,
-    Heard<&'a mut F>,
-    Global,
->
-    ensures { failed_calls result.port.counts ≡ 0 }
-{
-    let Loaded { reference, service } = loaded;
-    Server {
-        port: UdpPort::new(SystemWire {
-            socket,
-            clock: rt,
-            queue: (),
-        }),
-        commands: WholeCommands::new(rt, commands),
-        applied: 0,
-        reference: FixedReference(reference),
-        observer: Heard {
-            faults: FaultLines::new(faults),
-            arrivals: 0,
-            sent: 0,
-        },
-        service,
-    }
 }

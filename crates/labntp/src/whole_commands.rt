@@ -76,42 +76,18 @@ impl<'a, R: Files, A: Allocator + Copy> CommandsSource<A> for WholeCommands<'a, 
     /// for the file; where that is refused, the file is read at the next look.
     fn look(&mut self, alloc: A, _receipt: Option<Moment>) -> Option<Vec<u8, A>> {
         let mut octets = self.changed(alloc)?;
-        let due = due(&octets, self.given)?;
-        octets.truncate(due.end);
-        octets.rotate_left(due.start);
-        octets.truncate(due.end - due.start);
-        self.given = self.given.saturating_add(due.lines);
+        if octets.len() > MOST_FILE_OCTETS {
+            return None;
+        }
+        let rest = behind(str::from_utf8(&octets).ok()?, self.given)?;
+        let (lines, _) = rest.rsplit_once('\n')?;
+        let count = lines.split('\n').count() as u64;
+        let (start, length) = (octets.len() - rest.len(), lines.len() + 1);
+        octets.rotate_left(start);
+        octets.truncate(length);
+        self.given = self.given.saturating_add(count);
         Some(octets)
     }
-}
-
-// A part of a file that has whole lines.
-#[derive(Clone, Copy)]
-struct Span {
-    // The octets up to its beginning, and up to its end.
-    start: usize,
-    end: usize,
-    // How many lines it has.
-    lines: u64,
-    ghost ordered: { start ≤ end },
-}
-
-// Finds the complete lines of a file behind the first `given` ones, where it has some.
-fn due(octets: &[u8], given: u64) -> Option<Span>
-    ensures { IfSome result (λ due. due.end ≤ length octets.now) }
-{
-    if octets.len() > MOST_FILE_OCTETS {
-        return None;
-    }
-    let text = str::from_utf8(octets).ok()?;
-    let rest = behind(text, given)?;
-    let (lines, _) = rest.rsplit_once('\n')?;
-    let start = text.len() - rest.len();
-    Some(Span {
-        start,
-        end: start + lines.len() + 1,
-        lines: lines.split('\n').count() as u64,
-    })
 }
 
 // Returns what stands behind the first `lines` complete lines of a text, where it has as many.
@@ -123,10 +99,7 @@ fn behind(text: &str, lines: u64) -> Option<&str>
 {
     let mut rest = text;
     for _line in 0..lines {
-        let Some((_, others)) = rest.split_once('\n') else {
-            return None;
-        };
-        rest = others;
+        rest = rest.split_once('\n')?.1;
     }
     Some(rest)
 }

@@ -7,9 +7,9 @@ use Rattle.std.proofs.lemmas.List.Elements.{All-nil, All-cons, All-append, filte
 use Rattle.ntp_service.specs.{Registry.Registry, declared.event.Event.Event, declared.outcome.Outcome.Outcome}
 use Rattle.ntp_service.specs.Headline.{StandsFor, TellsOne}
 use Rattle.ntp_admin.specs.{Words.words, Spells.is_passed_over, Spells.event_in, Answers.outcome_text}
-use Rattle.labntp_jobs.specs.{declared.faults.ReplayFaultKind.ReplayFaultKind, Script.IsReadable, Replay.Replays, Replay.Causes}
+use Rattle.labntp_jobs.specs.{declared.replaying.ReplayFaultKind.ReplayFaultKind, Script.IsReadable, Replay.Replays, Replay.Causes}
 use Rattle.labntp_jobs.specs.{Lines.CutsShort, Engine.AnswersLines, Engine.Halts}
-use Rattle.labntp_jobs.specs.declared.faults.ReplayFaultKind.TheVariants.{Line, Read, Write, NoMemory, LineLong, NotUtf8}
+use Rattle.labntp_jobs.specs.declared.replaying.ReplayFaultKind.TheVariants.{Line, Read, Write, NoMemory, LineLong, NotUtf8}
 use Rattle.ntp_service.proofs.PublicLaws.{Tells-nil, Tells-push}
 
 -- two lists that agree place by place, each with one member more

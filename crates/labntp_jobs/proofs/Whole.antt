@@ -3,8 +3,8 @@ use Rattle.std.proofs.Common.{◌≡◌, ℕ, ◌+◌, Option, Some, None, IfSom
 use Rattle.std.specs.Io.KnownBytes.{Consumes, IsAtEnd}
 use Rattle.std.proofs.KnownBytes.{Consumes-trans}
 use Rattle.ntp_service.specs.Registry.{Registry}
-use Rattle.labntp_jobs.specs.{declared.engine.Engine.Engine, declared.faults.ReplayFaultKind.ReplayFaultKind}
-use Rattle.labntp_jobs.specs.{declared.faults.ReplayFaultKind.TheVariants.Read, Script.lines_of, Replay.Replays, Replay.StopsAt}
+use Rattle.labntp_jobs.specs.{declared.engine.Engine.Engine, declared.replaying.ReplayFaultKind.ReplayFaultKind}
+use Rattle.labntp_jobs.specs.{declared.replaying.ReplayFaultKind.TheVariants.Read, Script.lines_of, Replay.Replays, Replay.StopsAt}
 use Rattle.labntp_jobs.specs.Engine.{AnswersLines, Halts, IsUnfed, Fed, Stops}
 use Rattle.labntp_jobs.proofs.LinesReplayed.{Answers-append, replays-nothing}
 

@@ -2,9 +2,9 @@
 use Rattle.std.specs.Prelude.{◌≡◌, ◌⊎◌, ℕ, List}
 use Rattle.ntp_service.specs.Registry.{Registry}
 use Rattle.ntp_service.specs.declared.line_fault.LineFault.TheVariants as line_fault
-use Rattle.labntp_jobs.specs.{declared.faults.ReplayFault.ReplayFault, declared.faults.ReplayFaultKind.ReplayFaultKind}
+use Rattle.labntp_jobs.specs.{declared.replaying.ReplayFault.ReplayFault, declared.replaying.ReplayFaultKind.ReplayFaultKind}
 use Rattle.labntp_jobs.specs.{Script.lines_of, Replay.Replays, Replay.StopsAt}
-use Rattle.labntp_jobs.specs.declared.faults.ReplayFaultKind.TheVariants.{Line, Read, Write, NoMemory}
+use Rattle.labntp_jobs.specs.declared.replaying.ReplayFaultKind.TheVariants.{Line, Read, Write, NoMemory}
 
 -- the status for what stopped a replay: 3 for a read or a write, 4 for want of memory, 1 for the text
 abbrev pub status_of : ReplayFaultKind → ℕ

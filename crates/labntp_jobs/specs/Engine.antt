@@ -1,7 +1,7 @@
 -- Not to be believed: for proofs. What an engine does with octets, in steps.
 use Rattle.std.specs.Prelude.{◌≡◌, ℕ, ◌+◌, List, [], ◌++◌, length}
 use Rattle.ntp_service.specs.{Registry.Registry, Headline.StandsFor}
-use Rattle.labntp_jobs.specs.{declared.engine.Engine.Engine, declared.faults.ReplayFaultKind.ReplayFaultKind, Script.lines_of}
+use Rattle.labntp_jobs.specs.{declared.engine.Engine.Engine, declared.replaying.ReplayFaultKind.ReplayFaultKind, Script.lines_of}
 use Rattle.labntp_jobs.specs.Replay.{Replays, Causes}
 
 -- whatever lines were replayed before, these then are too

@@ -2,8 +2,8 @@
 use Rattle.std.specs.Prelude.{◌≡◌, ℕ, Bool, true, false, Option, Some, None, List, [], ◌++◌, Ok}
 use Rattle.ntp_service.specs.declared.event.Event.{Event}
 use Rattle.ntp_admin.specs.{Words.words, Spells.is_passed_over, Spells.event_in}
-use Rattle.labntp_jobs.specs.{declared.faults.ReplayFaultKind.ReplayFaultKind, Script.IsReadable}
-use Rattle.labntp_jobs.specs.declared.faults.ReplayFaultKind.TheVariants.{Line, Read, Write, NoMemory, LineLong, NotUtf8}
+use Rattle.labntp_jobs.specs.{declared.replaying.ReplayFaultKind.ReplayFaultKind, Script.IsReadable}
+use Rattle.labntp_jobs.specs.declared.replaying.ReplayFaultKind.TheVariants.{Line, Read, Write, NoMemory, LineLong, NotUtf8}
 
 -- a line that is readable is passed over, or spells an event
 abbrev pub Judges : {A : Type 0} → List ℕ → Option (Event A) → Type 0

@@ -5,9 +5,9 @@ use Rattle.ntp_service.specs.{Registry.Registry, declared.event.Event.Event, dec
 use Rattle.ntp_service.specs.declared.line_fault.LineFault.TheVariants as line_fault
 use Rattle.ntp_admin.specs.{Words.words, Spells.is_passed_over, Spells.event_in, Answers.outcome_text}
 use Rattle.ntp_admin.specs.CommandsFile.{most_line_octets}
-use Rattle.labntp_jobs.specs.{declared.faults.ReplayFault.ReplayFault, declared.faults.ReplayFaultKind.ReplayFaultKind}
+use Rattle.labntp_jobs.specs.{declared.replaying.ReplayFault.ReplayFault, declared.replaying.ReplayFaultKind.ReplayFaultKind}
 use Rattle.labntp_jobs.specs.Script.{IsReadable}
-use Rattle.labntp_jobs.specs.declared.faults.ReplayFaultKind.TheVariants.{Line, Read, Write, NoMemory, LineLong, NotUtf8}
+use Rattle.labntp_jobs.specs.declared.replaying.ReplayFaultKind.TheVariants.{Line, Read, Write, NoMemory, LineLong, NotUtf8}
 
 -- how many reads of a text there are at most
 abbrev pub most_reads : ℕ

@@ -1,13 +1,12 @@
 //! The engine of a replay: octets in, answer lines out.
-ghost use Rattle.std.specs.Prelude.{◌≡◌, ◌≢◌, ℕ, ◌+◌, ◌≤◌, ◌<◌, ◌^◌, List, [], ◌∷◌, ◌++◌, length, vec_len, All, OnOk, IfOk, IfErr};
+ghost use Rattle.std.specs.Prelude.{◌≡◌, ◌≢◌, ℕ, ◌+◌, ◌≤◌, ◌<◌, ◌^◌, Bool, List, [], ◌∷◌, ◌++◌, length, vec_len, All, OnOk, IfOk, IfErr};
 ghost use Rattle.ntp_admin.specs.CommandsFile.{most_line_octets};
-ghost use Rattle.labntp_jobs.specs.{Script.lines_of, Lines.IsPastReading, Watched.Wrote};
+ghost use Rattle.labntp_jobs.specs.{Script.lines_of, Replay.Causes, Lines.Judges, Lines.IsPastReading, Watched.Wrote};
 
-use crate::faults::{ReplayFault, ReplayFaultKind};
-use crate::lines::{judge, write_answer};
+use crate::replaying::{ReplayFault, ReplayFaultKind};
 use crate::watch::Watched;
-use ntp_admin::MOST_LINE_OCTETS;
-use ntp_service::Service;
+use ntp_admin::{MOST_LINE_OCTETS, is_passed_over, parse_event, print_answer};
+use ntp_service::{Event, Service};
 use std::alloc::Allocator;
 use std::io::Write;
 
@@ -64,7 +63,10 @@ impl<A: Allocator + Copy> Engine<A> {
             Ok(None) => Ok(()),
             Ok(Some(event)) => {
                 let outcome = self.service.apply(&event);
-                write_answer(alloc, &outcome, writer)
+                let Ok(answer) = print_answer(alloc, &outcome) else {
+                    return Err(ReplayFaultKind::NoMemory);
+                };
+                writer.write_all(answer.as_bytes())
             }
         }
     }
@@ -137,5 +139,24 @@ impl<A: Allocator + Copy> Engine<A> {
             return Ok(());
         }
         self.answer(writer)
+    }
+}
+
+// The event that a line spells, or none where the line is passed over.
+fn judge<A: Allocator + Copy>(alloc: A, line: &[u8]) -> Result<Option<Event<A>>, ReplayFaultKind>
+    requires { length line.now ≤ most_line_octets }
+    ensures ok { IfOk result (Judges line.now) }
+    ensures err { IfErr result (λ kind. (before : List (List ℕ)) (so_far : List ℕ) → Causes A kind before so_far (line.now ∷ []) []) }
+    ensures past_reading { IfErr result (λ kind. (failed : Bool) → IsPastReading failed kind) }
+{
+    let Ok(text) = str::from_utf8(line) else {
+        return Err(ReplayFaultKind::NotUtf8);
+    };
+    if is_passed_over(line) {
+        return Ok(None);
+    }
+    match parse_event(alloc, text) {
+        Ok(event) => Ok(Some(event)),
+        Err(fault) => Err(ReplayFaultKind::Line(fault)),
     }
 }

@@ -1,15 +1,44 @@
-//! The replay of a script.
+//! The replay of a script, what stops one, and what it ends with.
 ghost use Rattle.std.specs.Prelude.{◌≡◌, ◌⊎◌, ℕ, ◌+◌, ◌-◌, ◌≤◌, ◌<◌, ◌^◌, List, [], true, false, OnOk, IfErr, IfSome};
 ghost use Rattle.std.specs.Io.KnownBytes.{IsAtEnd};
 ghost use Rattle.ntp_service.specs.Registry.{Registry};
-ghost use Rattle.labntp_jobs.specs.{Script.lines_of, Watched.Wrote};
+ghost use Rattle.ntp_admin.specs.Starts.{status_code};
+ghost use Rattle.labntp_jobs.specs.{Script.lines_of, Watched.Wrote, Ends.Ends, Ends.status_of};
 ghost use Rattle.labntp_jobs.specs.Replay.{most_reads, Replays, StopsAt};
 
 use crate::engine::Engine;
-use crate::faults::{ReplayFault, ReplayFaultKind};
 use crate::watch::Watched;
+use ntp_admin::{Status, memory_status, write_status};
+use ntp_service::LineFault;
 use std::alloc::Allocator;
 use std::io::{Read, Write};
+
+/// Why a replay stopped. Of what is wrong with one line, `LineLong` is found first, then `NotUtf8`, and
+/// then `Line`.
+#[derive(Clone, Copy, Debug, PartialEq, Eq)]
+pub enum ReplayFaultKind {
+    /// The line spells no event.
+    Line(LineFault),
+    /// A failure of a read was noted, or 4,294,967,295 reads did not reach the end.
+    Read,
+    /// A failure of a write was noted.
+    Write,
+    /// A growth was refused, for the line or for its answer.
+    NoMemory,
+    /// The line has more than 4,096 octets.
+    LineLong,
+    /// The octets of the line are not UTF-8.
+    NotUtf8,
+}
+
+/// Why a replay stopped, and at which line.
+#[derive(Clone, Copy, Debug, PartialEq, Eq)]
+pub struct ReplayFault {
+    /// The line, counted from 1. Lines that are no event are counted too.
+    pub line: u64,
+    /// Why it was not answered.
+    pub kind: ReplayFaultKind,
+}
 
 // How many octets are read at once, at most.
 const CHUNK: usize = 4096;
@@ -71,4 +100,55 @@ pub fn replay<A: Allocator + Copy, R: Read, W: Write>(
         }
     }
     Err(engine.fault(ReplayFaultKind::Read))
+}
+
+/// Replays a script from a reader to a writer. A fault is told in one line to `faults`, where a failed write
+/// is passed over.
+///
+/// Gives the exit status: 0 only where the whole script was replayed, 1 only where its text has a fault, 3 only
+/// where a read or a write failed or the reads ran out, and 4 for want of memory.
+pub fn replay_status<A: Allocator + Copy, R: Read, W: Write, F: Write>(
+    alloc: A,
+    reader: &mut Watched<R>,
+    writer: &mut Watched<W>,
+    faults: &mut F,
+) -> u8
+    requires reader_well { reader.old.failed ≡ false }
+    requires unread { reader.old.reads ≡ 0 }
+    requires writer_well { writer.old.failed ≡ false }
+
+    // What the status says of the script, and what was written.
+    ensures ends { IfSome (R.remaining reader.old.inner) (λ text. (written : List ℕ)
+        × Ends A text written result × Wrote W.contents writer.old writer.new written) }
+
+    // Whatever the reader and the writer tell.
+    ensures done { result ≡ 0 → (reader.new.failed ≡ false) × (writer.new.failed ≡ false) }
+    ensures failed { result ≡ 3 → (reader.new.failed ≡ true) ⊎ (reader.new.reads ≡ most_reads) ⊎ (writer.new.failed ≡ true) }
+{
+    match replay(alloc, reader, writer) {
+        Ok(()) => Status::Done.code(),
+        Err(fault) => tell(fault, faults).code(),
+    }
+}
+
+// Tells a fault, and gives its status.
+fn tell<F: Write>(fault: ReplayFault, faults: &mut F) -> Status
+    ensures { status_code result ≡ status_of fault.kind }
+{
+    let word = match fault.kind {
+        ReplayFaultKind::Line(LineFault::NoMemory) | ReplayFaultKind::NoMemory => {
+            return memory_status(faults);
+        }
+        ReplayFaultKind::Write => return write_status(faults),
+        ReplayFaultKind::Read => {
+            let _ = writeln!(faults, "read");
+            return Status::IoFailed;
+        }
+        ReplayFaultKind::Line(line_fault) => line_fault.word(),
+        ReplayFaultKind::LineLong => "long",
+        ReplayFaultKind::NotUtf8 => "not utf-8",
+    };
+    let line = fault.line;
+    let _ = writeln!(faults, "line {line}: {word}");
+    Status::TextFaulty
 }

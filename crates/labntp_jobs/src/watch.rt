@@ -1,8 +1,9 @@
 //! A reader or a writer, and whether a failure was noted.
-ghost use Rattle.std.specs.Prelude.{◌≡◌, ℕ, ◌+◌, ◌-◌, ◌<◌, ◌≤◌, ◌^◌, ◌++◌, List, [], length, take, min, true, false, IfOk, IsErr, OnOk, OnErr};
+ghost use Rattle.std.specs.Prelude.{◌≡◌, ℕ, ◌+◌, ◌-◌, ◌<◌, ◌≤◌, ◌^◌, List, length, take, min, true, false, IfOk, IfErr, OnOk, OnErr};
 ghost use Rattle.std.specs.Io.KnownBytes.{Keeps, Consumes, IsAtEnd};
 
-use std::io::{self, ErrorKind, Read, Write};
+use crate::ReplayFaultKind;
+use std::io::{self, Read, Write};
 
 /// A reader or a writer that is watched: whether a failure was noted, and how many reads were counted. A failure is
 /// noted, and a read counted, where a call is made through it.
@@ -14,10 +15,6 @@ pub struct Watched<T> {
     // How many reads were counted.
     reads: u64,
 }
-
-/// A failure was noted.
-#[derive(Clone, Copy, Debug, PartialEq, Eq)]
-pub(crate) struct Failed;
 
 impl<T> Watched<T> {
     /// Watches a reader or a writer from here on.
@@ -58,25 +55,11 @@ impl<T> Watched<T> {
     {
         self.reads
     }
-
-    // Notes how a call ended: what it gave, or that it failed.
-    fn note(&mut self, given: io::Result<usize>) -> Result<usize, Failed>
-        ensures ok { IfOk given (λ n. (result ≡ Ok n) × (self.new ≡ self.old)) }
-        ensures err { OnErr given (IsErr result × (self.new ≡ record self.old { failed = true })) }
-    {
-        match given {
-            Ok(n) => Ok(n),
-            Err(_) => {
-                self.failed = true;
-                Err(Failed)
-            }
-        }
-    }
 }
 
 impl<R: Read> Watched<R> {
     // One read, tried once. It gives no octet only at the end of the input. An error is noted as a failure.
-    pub(crate) fn read_chunk(&mut self, chunk: &mut [u8]) -> Result<usize, Failed>
+    pub(crate) fn read_chunk(&mut self, chunk: &mut [u8]) -> io::Result<usize>
         requires { 0 < length chunk.old }
         ensures bound { IfOk result (λ n. n ≤ length chunk.new) }
         ensures octets { IfOk result (λ n.
@@ -88,40 +71,34 @@ impl<R: Read> Watched<R> {
         ensures counted { self.new.reads ≡ min (self.old.reads + 1) (2 ^ 64 - 1) }
     {
         self.reads = self.reads.saturating_add(1);
-        let given = self.inner.read(chunk);
-        self.note(given)
+        let read = self.inner.read(chunk);
+        self.failed |= read.is_err();
+        read
     }
 }
 
 impl<W: Write> Watched<W> {
-    ghost use Rattle.labntp_jobs.specs.Watched.{Wrote};
+    ghost use Rattle.labntp_jobs.specs.{Lines.CutsShort, Lines.IsPastReading, Watched.Wrote};
 
-    // Writes the octets, until all are taken or a write fails. Then a part from their front was written.
-    pub(crate) fn write_all(&mut self, octets: &[u8]) -> Result<(), Failed>
+    // Writes the octets, until all are taken or a write fails. Then a part from their front was written. Each write is tried once.
+    // An error is noted as a failure, and so is that it took no octet.
+    pub(crate) fn write_all(&mut self, octets: &[u8]) -> Result<(), ReplayFaultKind>
         ensures ok { OnOk result (Wrote W.contents self.old self.new octets.now) }
         ensures well { OnOk result (self.new.failed ≡ self.old.failed) }
-        ensures err { OnErr result ((part rest : List ℕ) × (octets.now ≡ part ++ rest) × Wrote W.contents self.old self.new part) }
-        ensures failed { OnErr result (self.new.failed ≡ true) }
+        ensures err { IfErr result (λ kind. (part : List ℕ) × CutsShort kind octets.now part
+            × Wrote W.contents self.old self.new part) }
+        ensures past_reading { IfErr result (IsPastReading self.new.failed) }
     {
         let mut at = 0;
         while at < octets.len() {
-            at += self.write_some(&octets[at..])?;
+            match self.inner.write(&octets[at..]) {
+                Ok(0) | Err(_) => {
+                    self.failed = true;
+                    return Err(ReplayFaultKind::Write);
+                }
+                Ok(n) => at += n,
+            }
         }
         Ok(())
-    }
-
-    // One write, tried once. An error is noted as a failure, and so is that it took no octet.
-    fn write_some(&mut self, octets: &[u8]) -> Result<usize, Failed>
-        ensures some { IfOk result (λ n. (0 < n) × (n ≤ length octets.now)) }
-        ensures octets { IfOk result (λ n. Wrote W.contents self.old self.new (take n octets.now)) }
-        ensures well { OnOk result (self.new.failed ≡ self.old.failed) }
-        ensures none { OnErr result (Wrote W.contents self.old self.new []) }
-        ensures failed { OnErr result (self.new.failed ≡ true) }
-    {
-        let given = match self.inner.write(octets) {
-            Ok(0) => Err(io::Error::from(ErrorKind::WriteZero)),
-            given => given,
-        };
-        self.note(given)
     }
 }

@@ -1,6 +1,6 @@
 //! The IPv4 addresses of this host. The kernel picks one of them for what a socket sends that is bound to 0.0.0.0.
 
-use crate::sockets::MOST_LIST_OCTETS;
+use crate::opened::MOST_LIST_OCTETS;
 use labntpd_files::Listen;
 use ntp_host::read_regular_file;
 use std::alloc::Global;
@@ -18,8 +18,9 @@ const MOST_OCTETS: u64 = 4_194_304;
 /// A socket that is bound to 0.0.0.0, on a host with several addresses.
 #[derive(Clone, Copy)]
 pub struct SeveralAddresses {
-    // The first two of them, with the port.
-    addresses: [SocketAddrV4; 2],
+    // The first two of them, and the port.
+    addresses: [Ipv4Addr; 2],
+    port: u16,
     is_inherited: bool,
 }
 
@@ -32,19 +33,17 @@ impl SeveralAddresses {
         alloc: Global,
         listen: Listen,
     ) -> Option<SeveralAddresses> {
-        match listen {
-            Listen::Bound(endpoint) => {
-                SeveralAddresses::at(files, alloc, endpoint.socket_address(), false)
-            }
+        let local = match listen {
+            Listen::Bound(endpoint) => endpoint.socket_address(),
             Listen::Inherited => {
                 let list = read_regular_file(files, alloc, "/proc/net/udp", MOST_LIST_OCTETS).ok()?;
                 if !str::from_utf8(&list).ok()?.contains(": 00000000:007B ") {
                     return None;
                 }
-                let local = SocketAddrV4::new(Ipv4Addr::UNSPECIFIED, 123);
-                SeveralAddresses::at(files, alloc, local, true)
+                SocketAddrV4::new(Ipv4Addr::UNSPECIFIED, 123)
             }
-        }
+        };
+        SeveralAddresses::at(files, alloc, local, matches!(listen, Listen::Inherited))
     }
 
     /// Returns what there is to warn of at a socket that is bound at `local`, and perhaps was handed down.
@@ -57,14 +56,9 @@ impl SeveralAddresses {
         if !local.ip().is_unspecified() {
             return None;
         }
-        let mut table = fs::open(files, ROUTES).ok()?.take(MOST_OCTETS);
-        let [first, second] = two_addresses(alloc, &mut table)?;
-        let port = local.port();
         Some(SeveralAddresses {
-            addresses: [
-                SocketAddrV4::new(first, port),
-                SocketAddrV4::new(second, port),
-            ],
+            addresses: two_addresses(alloc, fs::open(files, ROUTES).ok()?.take(MOST_OCTETS))?,
+            port: local.port(),
             is_inherited,
         })
     }
@@ -73,43 +67,36 @@ impl SeveralAddresses {
 /// The warning in one line, with what to write.
 impl fmt::Display for SeveralAddresses {
     fn fmt<W: fmt::Write>(&self, f: &mut fmt::Formatter<W>) -> fmt::Result {
-        let [first, second] = self.addresses;
-        let (before, behind) = if self.is_inherited {
-            ("ListenDatagram=", "")
-        } else {
-            ("listen = \"", "\"")
-        };
+        let ([first, second], port) = (self.addresses, self.port);
         write!(
             f,
-            "listen: replies from 0.0.0.0 leave from any address of this host, as {} and {}: {before}{first}{behind} names one",
-            first.ip(),
-            second.ip()
-        )
+            "listen: replies from 0.0.0.0 leave from any address of this host, as {first} and {second}: "
+        )?;
+        match self.is_inherited {
+            true => write!(f, "ListenDatagram={first}:{port} names one"),
+            false => write!(f, "listen = \"{first}:{port}\" names one"),
+        }
     }
 }
 
 // Returns the first two addresses of the host in the kernel's table, beside loopback. A line with an address stands before the
 // lines that say what it is.
-fn two_addresses<F: Read>(alloc: Global, table: &mut F) -> Option<[Ipv4Addr; 2]> {
-    let mut table = BufReader::new(alloc, table).ok()?;
-    let mut line = Vec::new(alloc);
+fn two_addresses(alloc: Global, table: impl Read + Drop) -> Option<[Ipv4Addr; 2]> {
     let mut shown: Option<Ipv4Addr> = None;
     let mut first: Option<Ipv4Addr> = None;
-    for _ in 0..MOST_OCTETS {
-        line.clear();
-        if table.read_until(b'\n', &mut line).ok()? == 0 {
-            return None;
-        }
-        let text = str::from_utf8(&line).ok()?.trim();
-        match text.strip_prefix("|-- ") {
-            Some(address) => shown = address.parse().ok(),
-            None if text == "/32 host LOCAL" => match (first, shown) {
-                (_, Some(own)) if own.is_loopback() => {}
-                (Some(first), Some(own)) if own != first => return Some([first, own]),
-                (None, _) => first = shown,
-                _ => {}
-            },
-            None => {}
+    for line in BufReader::new(alloc, table).ok()?.lines(alloc) {
+        let line = line.ok()?;
+        let text = line.trim();
+        if let Some(address) = text.strip_prefix("|-- ") {
+            shown = address.parse().ok();
+        } else if text == "/32 host LOCAL"
+            && let Some(own) = shown
+            && !own.is_loopback()
+        {
+            match first {
+                Some(first) if own != first => return Some([first, own]),
+                _ => first = shown,
+            }
         }
     }
     None

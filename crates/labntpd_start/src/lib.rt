@@ -7,13 +7,13 @@ mod lines;
 mod opened;
 mod places;
 mod prepared;
-mod sockets;
 
 pub use host_addresses::SeveralAddresses;
 pub use lines::{StartLines, log_form, service_manager, start_lines};
-pub use opened::{answers_file, clock_source, commands_at, watch_from_now};
+pub use opened::{
+    answers_file, check_socket, clock_source, commands_at, open_socket, set_up, watch_from_now,
+};
 pub use places::{NamedFiles, directory_of, readers_of, tell_places};
 pub use prepared::{
     KEY_LINE_WANTED, Prepared, PreparedClock, configuration_at, prepare, small_text,
 };
-pub use sockets::{check_socket, open_socket, set_up};

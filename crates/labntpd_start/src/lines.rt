@@ -1,7 +1,8 @@
 //! The lines on standard error before the daemon serves, and its service manager.
 
-use ntp_admin::{Status, failed_status};
+use ntp_admin::{Escaped, Status, failed_status};
 use ntp_host::{LogForm, Priority, ServiceManager};
+use std::fmt::Display;
 use std::io::{self, Stderr, Write};
 use std::os::unix::fs::MetadataExt;
 use std::{env, fs};
@@ -21,6 +22,13 @@ impl<W: Write + Drop> StartLines<W> {
     pub fn warning(&mut self) -> &mut StartLines<W> {
         self.priority = Priority::Warning;
         self
+    }
+
+    // Warns in a line of what there is to say of the file at a path, if anything.
+    pub(crate) fn warn<D: Display + Drop>(&mut self, path: &str, what: Option<D>) {
+        if let Some(what) = what {
+            let _ = writeln!(self.warning(), "{}: {what}", Escaped(path));
+        }
     }
 }
 
@@ -55,20 +63,17 @@ pub fn start_lines(rt: &HostRuntime) -> StartLines<Stderr> {
 
 /// Returns how lines on standard error begin: with priorities where the journal reads them.
 pub fn log_form(rt: &HostRuntime) -> LogForm {
-    if is_journal(rt) == Some(true) {
-        LogForm::WithPriorities
-    } else {
-        LogForm::Plain
-    }
+    journal_form(rt).unwrap_or(LogForm::Plain)
 }
 
-// Returns whether standard error is what the journal reads, where both are known: its device and inode are the word JOURNAL_STREAM of the
-// environment (systemd.exec(5)).
-fn is_journal(rt: &HostRuntime) -> Option<bool> {
+// Returns the form of lines that the journal reads, where it reads standard error: the device and inode of that are the word
+// JOURNAL_STREAM of the environment (systemd.exec(5)).
+fn journal_form(rt: &HostRuntime) -> Option<LogForm> {
     let stream = env::var(rt, "JOURNAL_STREAM").ok()?;
     let (device, inode) = stream.as_str().split_once(':')?;
     let standard_error = fs::metadata(rt, "/proc/self/fd/2").ok()?;
-    Some(device.parse() == Ok(standard_error.dev()) && inode.parse() == Ok(standard_error.ino()))
+    (device.parse() == Ok(standard_error.dev())
+        && inode.parse() == Ok(standard_error.ino())).then_some(LogForm::WithPriorities)
 }
 
 /// The service manager that hears of this process, where there is one.

@@ -1,7 +1,6 @@
 //! Where the files of a configuration stand: no two of them at one place, and those that are written in directories that are
 //! there.
 
-use crate::lines::StartLines;
 use labntpd_files::{Clock, Configuration};
 use ntp_admin::{Escaped, Status, memory_status};
 use ntp_host::not_regular;
@@ -24,14 +23,8 @@ enum Use {
     New,
 }
 
-/// A file that a configuration names, or one beside it.
-#[derive(Drop)]
-struct Named {
-    /// The key that names it.
-    key: &'static str,
-    path: String,
-    usage: Use,
-}
+/// A file that a configuration names, or one beside it: the key that names it, its path and what is done with it.
+type Named = (&'static str, String, Use);
 
 /// The paths of the files that a configuration names. Some may be left out.
 #[derive(Clone, Copy)]
@@ -83,7 +76,7 @@ impl<'a> NamedFiles<'a> {
         ] {
             if let Some(path) = path {
                 let path = format!(in alloc; "{path}{behind}")?;
-                each.push(Named { key, path, usage })?;
+                each.push((key, path, usage))?;
             }
         }
         Ok(each)
@@ -99,35 +92,28 @@ pub fn tell_places<R: Files, F: Write>(
     most: usize,
     faults: &mut F,
 ) -> Result<usize, Status> {
-    let Ok(each) = named.each(alloc) else {
-        return Err(memory_status(faults));
-    };
-    Ok(tell_each(files, named.configuration, &each, most, faults))
+    let each = named.each(alloc).map_err(|_| memory_status(faults))?;
+    Ok(tell_each(files, &each, most, faults))
 }
 
-// Writes in a line each what is wrong with where these files stand, at most `most` faults. Returns how many were written.
-fn tell_each<R: Files, F: Write>(
-    files: &R,
-    config: &str,
-    each: &[Named],
-    most: usize,
-    faults: &mut F,
-) -> usize {
-    let config = Escaped(config);
+// Writes what is wrong with them so. The first of them is the configuration itself.
+fn tell_each<R: Files, F: Write>(files: &R, each: &[Named], most: usize, faults: &mut F) -> usize {
+    let config = Escaped(each.first().map_or("", |(_, path, _)| path.as_str()));
     let mut written = 0;
-    for (place, file) in each.iter().enumerate() {
-        let (key, path) = (file.key, file.path.as_str());
+    for (place, (key, path, usage)) in each.iter().enumerate() {
+        let (key, path) = (*key, path.as_str());
         if written < most
-            && let Err(error) = writable(files, path, file.usage)
+            && *usage != Use::Read
+            && let Err(error) = writable(files, path, *usage)
         {
             let _ = writeln!(faults, "{config}: {key}: {}: {error}", Escaped(path));
             written += 1;
         }
         let mut earlier = each[..place].iter();
         if written < most
-            && let Some(other) = earlier.find(|it| are_one(files, path, it.path.as_str()))
+            && let Some((other, _, _)) = earlier.find(|it| are_one(files, path, it.1.as_str()))
         {
-            let other = other.key;
+            let other = *other;
             let _ = writeln!(
                 faults,
                 "{config}: {key}: another file than that of {other} is wanted"
@@ -138,27 +124,16 @@ fn tell_each<R: Files, F: Write>(
     written
 }
 
-/// Warns in a line that others may read a file which has keys, where that is so.
-pub(crate) fn tell_readers<R: Files, F: Write + Drop>(
-    files: &R,
-    path: &str,
-    faults: &mut StartLines<F>,
-) {
-    if let Some(readers) = readers_of(files, path) {
-        let _ = writeln!(faults.warning(), "{}: {readers}", Escaped(path));
-    }
-}
-
 /// That others may read a file which has keys, by the bits of its mode.
 #[derive(Clone, Copy)]
 pub struct Readers(u32);
 
 impl fmt::Display for Readers {
     fn fmt<W: fmt::Write>(&self, f: &mut fmt::Formatter<W>) -> fmt::Result {
+        let Readers(mode) = self;
         write!(
             f,
-            "it has keys, and others than its owner and group may use it (mode {:o})",
-            self.0 & 0o777
+            "it has keys, and others than its owner and group may use it (mode {mode:o})"
         )
     }
 }
@@ -167,18 +142,14 @@ impl fmt::Display for Readers {
 pub fn readers_of<R: Files>(files: &R, path: &str) -> Option<Readers> {
     let metadata = fs::metadata(files, path).ok()?;
     let is_theirs = metadata.is_file() && metadata.mode() & OTHERS != 0;
-    is_theirs.then_some(Readers(metadata.mode()))
+    is_theirs.then_some(Readers(metadata.mode() & 0o777))
 }
 
 // Whether a file that is written may stand where it is to: in a directory, and in the place of a regular file, no link to one, or of none.
 // What is made anew may have the place of anything but a directory.
 fn writable<R: Files>(files: &R, path: &str, usage: Use) -> io::Result<()> {
-    if usage == Use::Read {
-        return Ok(());
-    }
     match fs::symlink_metadata(files, path) {
-        Ok(metadata) if metadata.is_file() => Ok(()),
-        Ok(metadata) if usage == Use::New && !metadata.is_dir() => Ok(()),
+        Ok(found) if found.is_file() || usage == Use::New && !found.is_dir() => Ok(()),
         Ok(_) => Err(not_regular()),
         Err(error) if error.kind() == ErrorKind::NotFound => {
             fs::metadata(files, directory_of(path)).map(|_| ())

@@ -5,7 +5,7 @@ ghost use Rattle.labntpd_start.specs.Prepared.{IsClockOf};
 
 use crate::host_addresses::SeveralAddresses;
 use crate::lines::StartLines;
-use crate::places::{NamedFiles, tell_places, tell_readers};
+use crate::places::{NamedFiles, readers_of, tell_places};
 use labntpd_files::{
     Clock, ClockDaemon, Configuration, ConfigurationFault, Endpoint, Listen, key_in_file,
     read_configuration,
@@ -17,6 +17,7 @@ use ntp_packet::Short;
 use ntp_reply::Reference;
 use sha2::{Digest, Sha256};
 use std::alloc::Global;
+use std::fmt::Display;
 use std::fs::Files;
 use std::io::Write;
 
@@ -57,8 +58,7 @@ pub fn prepare<R: Files, F: Write + Drop>(
 ) -> Result<Prepared, Status>
     ensures { IfOk result (λ prepared. IsClockOf prepared.configuration.clock prepared.clock) }
 {
-    let text = small_text(files, alloc, path, faults)?;
-    let configuration = configuration_in(alloc, path, text.as_str(), faults)?;
+    let (text, configuration) = configuration_text(files, alloc, path, faults)?;
     let named = NamedFiles::of(path, &configuration);
     if tell_places(files, alloc, named, 1, faults)? > 0 {
         return Err(Status::TextFaulty);
@@ -67,12 +67,12 @@ pub fn prepare<R: Files, F: Write + Drop>(
         Clock::Fixed(reference) => PreparedClock::Fixed(*reference),
         Clock::Followed(daemon) => followed(files, alloc, daemon, faults)?,
     };
-    tell_readers(files, configuration.commands.as_str(), faults);
+    let commands = configuration.commands.as_str();
+    faults.warn(commands, readers_of(files, commands));
     // A socket that is handed down is judged once it is there.
-    if matches!(configuration.listen, Listen::Bound(_))
-        && let Some(several) = SeveralAddresses::configured(files, alloc, configuration.listen)
-    {
-        let _ = writeln!(faults.warning(), "{}: {several}", Escaped(path));
+    if matches!(configuration.listen, Listen::Bound(_)) {
+        let several = SeveralAddresses::configured(files, alloc, configuration.listen);
+        faults.warn(path, several);
     }
     Ok(Prepared {
         configuration,
@@ -89,24 +89,21 @@ pub fn configuration_at<R: Files, F: Write>(
     path: &str,
     faults: &mut F,
 ) -> Result<Configuration, Status> {
-    let text = small_text(files, alloc, path, faults)?;
-    configuration_in(alloc, path, text.as_str(), faults)
+    Ok(configuration_text(files, alloc, path, faults)?.1)
 }
 
-// The configuration of a text.
-fn configuration_in<F: Write>(
+// Reads a configuration file: its text and what that says.
+fn configuration_text<R: Files, F: Write>(
+    files: &R,
     alloc: Global,
     path: &str,
-    text: &str,
     faults: &mut F,
-) -> Result<Configuration, Status> {
-    match read_configuration(alloc, text) {
-        Ok(configuration) => Ok(configuration),
+) -> Result<(String, Configuration), Status> {
+    let text = small_text(files, alloc, path, faults)?;
+    match read_configuration(alloc, text.as_str()) {
+        Ok(configuration) => Ok((text, configuration)),
         Err(ConfigurationFault::NoMemory) => Err(memory_status(faults)),
-        Err(fault) => {
-            let _ = writeln!(faults, "{}: {fault}", Escaped(path));
-            Err(Status::TextFaulty)
-        }
+        Err(fault) => Err(faulty(path, fault, faults)),
     }
 }
 
@@ -122,8 +119,7 @@ fn followed<R: Files, F: Write + Drop>(
     let path = daemon.key_file.as_str();
     let text = small_text(files, alloc, path, faults)?;
     let Some(key) = key_in_file(&text, daemon.algorithm) else {
-        let _ = writeln!(faults, "{}: {KEY_LINE_WANTED}", Escaped(path));
-        return Err(Status::TextFaulty);
+        return Err(faulty(path, KEY_LINE_WANTED, faults));
     };
     let limits = ClockLimits {
         valid_for: daemon.valid_for,
@@ -131,7 +127,7 @@ fn followed<R: Files, F: Write + Drop>(
         most_reference_age: daemon.most_reference_age,
         most_step: daemon.most_step,
     };
-    tell_readers(files, path, faults);
+    faults.warn(path, readers_of(files, path));
     let follower = Follower::new(key, daemon.number.get(), limits);
     Ok(PreparedClock::Followed(daemon.source, follower))
 }
@@ -143,23 +139,17 @@ pub fn small_text<R: Files, F: Write>(
     path: &str,
     faults: &mut F,
 ) -> Result<String, Status> {
-    let octets = match read_regular_file(files, alloc, path, MOST_SMALL_FILE_OCTETS) {
-        Ok(octets) => octets,
-        Err(error) => return Err(failed_status(path, &error, faults)),
-    };
+    let read = read_regular_file(files, alloc, path, MOST_SMALL_FILE_OCTETS);
+    let octets = read.map_err(|error| failed_status(path, &error, faults))?;
     if octets.len() > MOST_SMALL_FILE_OCTETS as usize {
-        let _ = writeln!(
-            faults,
-            "{}: at most {MOST_SMALL_FILE_OCTETS} octets are wanted",
-            Escaped(path)
-        );
-        return Err(Status::TextFaulty);
+        let wanted = format_args!("at most {MOST_SMALL_FILE_OCTETS} octets are wanted");
+        return Err(faulty(path, wanted, faults));
     }
-    match String::from_utf8(octets) {
-        Ok(text) => Ok(text),
-        Err(_) => {
-            let _ = writeln!(faults, "{}: this is no UTF-8", Escaped(path));
-            Err(Status::TextFaulty)
-        }
-    }
+    String::from_utf8(octets).map_err(|_| faulty(path, "this is no UTF-8", faults))
+}
+
+// Writes what is wrong with the text of a file, and returns the exit status.
+fn faulty<D: Display + Drop, F: Write>(path: &str, what: D, faults: &mut F) -> Status {
+    let _ = writeln!(faults, "{}: {what}", Escaped(path));
+    Status::TextFaulty
 }

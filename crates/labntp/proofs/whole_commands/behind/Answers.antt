@@ -11,18 +11,19 @@ behind-more all others x n cut = (omega (arith, length-drop n all, ap length cut
 
 pub loop-line-preserved : goal.loop-line-preserved
 loop-line-preserved c =
-    let rest = c.loop-line.rest.now in
-    let cut = complete_lines-split rest (Some (c.in-Some.field-0-0, c.in-Some.others)) c.in-Some.ensures.cases in
-    let parts = split_parts 10 rest (Some (c.in-Some.field-0-0, c.in-Some.others)) c.in-Some.ensures.cases (lit< tt) in
+    let rest = c.loop-line.rest.now in let found = c.in_ok-rest.field-0 in
+    let cut = complete_lines-split rest (Some found) c.in_ok-rest.ensures.cases in
+    let parts = split_parts 10 rest (Some found) c.in_ok-rest.ensures.cases (lit< tt) in
     let more = behind-more (complete_lines c.args.text.now) _ _ _ (sym cut ∙ c.loop-line.invariant.behind) in
     record {
       utf8 = search rules;
-      within = omega (arith, ap length parts.0, length-append c.in-Some.field-0-0.now (10 ∷ c.in-Some.others.now), c.loop-line.invariant.within);
+      within = omega (arith, ap length parts.0, length-append found.0.now (10 ∷ found.1.now), c.loop-line.invariant.within);
       many = more.0;
       behind = more.1;
     }
 
-pub returns-in_default-clause-fewer : goal.returns-in_default-clause-fewer
-returns-in_default-clause-fewer c =
-    let none = complete_lines-split c.loop-line.rest.now None c.in_default.ensures.cases in
-    omega (arith, ap length none, ap length c.loop-line.invariant.behind, length-drop c.loop-line._line (complete_lines c.args.text.now))
+pub returns-in_err-rest-clause-fewer : goal.returns-in_err-rest-clause-fewer
+returns-in_err-rest-clause-fewer c =
+    let none = complete_lines-split c.loop-line.rest.now None c.in_err-rest.ensures.cases in
+    rw c.from_residual.ensures (
+    omega (arith, ap length none, ap length c.loop-line.invariant.behind, length-drop c.loop-line._line (complete_lines c.args.text.now)))

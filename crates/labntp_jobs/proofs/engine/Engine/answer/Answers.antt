@@ -11,14 +11,16 @@ returns-in-Ok-None-clause-ok g c =
     let line = rw c.deref.ensures.value at (rw c.in-Ok-None.field-0-is at c.in-Ok-None.ensures.ok) in
     ([], Answers-passed _ _ line.0 line.1, Appends-nil _)
 
-pub returns-in-Ok-Some-clause-ok : goal.returns-in-Ok-Some-clause-ok
-returns-in-Ok-Some-clause-ok g c =
+pub returns-in-Ok-clause-ok : goal.returns-in-Ok-clause-ok
+returns-in-Ok-clause-ok g c =
     let line = rw c.deref.ensures.value at (rw c.in-Ok-Some.field-0-is at c.in-Ok-Some.ensures.ok) in
-    on_ok_weaker c.write_answer.result
-    (λ wrote. (_, Answers-event _ _ _ _ _ line.0 line.1 line.2 c.apply-outcome.ensures, wrote)) c.write_answer.ensures.ok
+    let text = rw c.in-Ok.ensures at (rw c.as_bytes.ensures.value at c.write_all.ensures.ok) in
+    on_ok_weaker c.write_all.result
+    (λ wrote. (_, Answers-event _ _ _ _ _ line.0 line.1 line.2 c.apply-outcome.ensures, wrote)) text
 
-pub returns-in-Ok-Some-clause-err : goal.returns-in-Ok-Some-clause-err
-returns-in-Ok-Some-clause-err g c =
+pub returns-in-Ok-clause-err : goal.returns-in-Ok-clause-err
+returns-in-Ok-clause-err g c =
     let line = rw c.deref.ensures.value at (rw c.in-Ok-Some.field-0-is at c.in-Ok-Some.ensures.ok) in
-    IfErr-weaker c.write_answer.result _ _
-    (λ kind h. (h.0, Halts-event kind _ _ _ _ _ _ line.0 line.1 line.2 c.apply-outcome.ensures h.1, h.2)) c.write_answer.ensures.err
+    let text = rw c.in-Ok.ensures at (rw c.as_bytes.ensures.value at c.write_all.ensures.err) in
+    IfErr-weaker c.write_all.result _ _
+    (λ kind h. (h.0, Halts-event kind _ _ _ _ _ _ line.0 line.1 line.2 c.apply-outcome.ensures h.1, h.2)) text

@@ -2700,19 +2700,18 @@ class Judged:
     def hear(self, address, answer, window):
         """The next reply to this address is this answer."""
         try:
-            fault = answer.fault(reply := self.sockets[address].recv(2048), self.reference, window)
+            fault = answer.fault(self.sockets[address].recv(2048), self.reference, window)
         except TimeoutError:
             fault = f"none within {WAIT} seconds"
         assert not fault, f"{self.progress()}: {answer.word} is due to {answer.request.hex()} of {address}: {fault}"
-        self.seen[self.counted_as(address, answer, reply)] += 1
+        self.seen[self.counted_as(address, answer)] += 1
 
-    def counted_as(self, address, answer, reply):
-        """The name of its count. The statistics tell interleaved replies by a transmit stamp before the receive stamp, which is not so
-        where the clock was set back."""
+    def counted_as(self, address, answer):
+        """The name of its count."""
         if not answer.exchange:
             return answers(answer.word)
         self.stamps[address] = [*self.stamps[address][-9:], answer.exchange.receive]
-        return answers("time", "interleaved" if reply[40:48] < reply[32:40] else "basic")
+        return answers("time", answer.word)
 
     def progress(self):
         return f"behind {sum(self.seen.values())} datagrams and {self.lines} lines"

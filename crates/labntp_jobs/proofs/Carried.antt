@@ -12,6 +12,7 @@ use Rattle.ntp_client.specs.declared.taken.Taken.TheVariants as taken
 use Rattle.ntp_reply.specs.{Replies.time_fields, declared.occasion.Occasion.Occasion, Life.recent_of, Life.recent_in, Kind.Signed}
 use Rattle.ntp_reply.specs.Exchanged.{matched, stamps_of}
 use Rattle.ntp_reply.specs.Verdict.{kind_answer, after_kind, verdict, after_datagram, window_at}
+use Rattle.ntp_reply.specs.declared.answers.SignedReply.{SignedReply}
 use Rattle.ntp_reply.specs.declared.answers.Answer.TheVariants as answer
 use Rattle.labntp_jobs.specs.Meeting.{WaitsForReply, SharesKey, FitsPacket, request_octets}
 use Rattle.labntp_jobs.proofs.{Readings.sealed_packet, Readings.read-sealed, Stamps.receive-fits, Stamps.transmit-fits}
@@ -25,7 +26,7 @@ time-header : (past : Past) (o : Occasion) (q : Outstanding) (found : Option Slo
     × ((time_fields o (query_fields q) found (stamps_of past o)).receive ≡ (stamps_of past o).receive)
 time-header past o q found e f g = grind (arith, IsHeader-reply, receive-fits, transmit-fits)
 
-module _ (c : ClientState) (q : Outstanding) (past : Past) (o : Occasion) (reply : List ℕ) (saved : Stamp) (waits : WaitsForReply c q)
+module _ (c : ClientState) (q : Outstanding) (past : Past) (o : Occasion) (reply : SignedReply) (saved : Stamp) (waits : WaitsForReply c q)
     (shares : SharesKey past c) (answered : verdict (Some past) o (request_octets c q) ≡ answer.Time reply saved) where
   signed-answer : kind_answer past o (Signed c.key c.number (query_fields q)) ≡ answer.Time reply saved
   signed-answer = sym (request-answer c q past o waits shares) ∙ answered
@@ -33,7 +34,7 @@ module _ (c : ClientState) (q : Outstanding) (past : Past) (o : Occasion) (reply
   -- a client that takes the reply for a sample carries their exchange
   pub carried-after : (at : Moment) (s : Sample) → FitsPacket o.reference
       → IfSome (matched (recent_of past) (query_fields q)) (λ found. found.transmit.0 < 2 ^ 64)
-      → after_taken c reply at (taken.Sample s) ≡ record {
+      → after_taken c reply.octets at (taken.Sample s) ≡ record {
         key = c.key;
         number = c.number;
         outstanding = None;
@@ -43,9 +44,9 @@ module _ (c : ClientState) (q : Outstanding) (past : Past) (o : Occasion) (reply
       let h : HeaderFields = time_fields o (query_fields q) (matched (recent_of past) (query_fields q)) (stamps_of past o) in
       let told = told-time past o c.key c.number (query_fields q) reply saved signed-answer in
       let header = time-header past o q (matched (recent_of past) (query_fields q)) state_fits waits.header fits in
-      let read : reading_of reply ≡ Ok (sealed_packet c.key c.number h) =
+      let read : reading_of reply.octets ≡ Ok (sealed_packet c.key c.number h) =
       ap reading_of told.0 ∙ read-sealed c.key c.number h header.0 waits.number in
-      let exchange : option_and_then (λ q. option_map (λ h. exchange_of q h at) (header_taken c reply)) c.outstanding ≡ Some (exchange_of q h at) =
+      let exchange : option_and_then (λ q. option_map (λ h. exchange_of q h at) (header_taken c reply.octets)) c.outstanding ≡ Some (exchange_of q h at) =
       rw (waits.outstanding, read) refl in
       ap (λ (e : Option Exchange). record c { outstanding = None; sampled = e }) (exchange
       ∙ ap (λ r. Some (record { transmit = q.transmit; receive = r; arrival = fresh at.stamp [] })) (header.1 ∙ sym told.1))

@@ -1,5 +1,5 @@
 -- What the answer to a datagram is that is refused.
-use Rattle.std.proofs.Common.{◌≡◌, ℕ, Bool, List, ◌++◌, Ok, ap, ◌∙◌, arith}
+use Rattle.std.proofs.Common.{◌≡◌, ℕ, Bool, false, List, ◌++◌, Ok, ap, ◌∙◌, arith}
 use Rattle.std.specs.Prelude.{if◌then◌else◌}
 use Rattle.ntp_packet.specs.{Header.HeaderFields, Header.header_octets, Request.RequestValue}
 use Rattle.ntp_mac.specs.{Mac.nak_octets, Key.SymmetricKey, Reading.reading_of}
@@ -7,9 +7,9 @@ use Rattle.ntp_customer.specs.Past.{Past}
 use Rattle.ntp_reply.specs.declared.occasion.Occasion.{Occasion}
 use Rattle.ntp_reply.specs.{declared.kiss.Kiss.TheVariants.Rate, declared.kiss.Kiss.TheVariants.Deny, Life.Life, Life.recent_of}
 use Rattle.ntp_reply.specs.{Exchanged.stamps_of, declared.answers.Answer.Answer}
-use Rattle.ntp_reply.specs.Replies.{basic_fields, kiss_fields, sealed}
+use Rattle.ntp_reply.specs.Replies.{basic_fields, kiss_fields}
 use Rattle.ntp_reply.specs.Kind.{Kind, PassedOver, RefusedByDeny, RefusedByNak, Signed}
-use Rattle.ntp_reply.specs.Verdict.{kind_answer, verdict, timed}
+use Rattle.ntp_reply.specs.Verdict.{kind_answer, verdict, signed_reply, timed}
 use Rattle.ntp_reply.specs.declared.answers.Answer.TheVariants as answer
 use Rattle.ntp_reply.specs.declared.answers.Reason.TheVariants as reason
 use Rattle.labntp_jobs.proofs.Speaks.{SpeaksOf, kind-speaks}
@@ -21,7 +21,7 @@ neither test one other third e f g = grind arith
 module _ (past : Past) (o : Occasion) where
   -- a signed query is answered by the time, a RATE or silence
   served : (key : SymmetricKey) (number : ℕ) (h : HeaderFields) (third : Answer) → (timed key number o h (recent_of past) ≡ third → ⊥)
-      → (answer.Rate (sealed key number (kiss_fields Rate h)) ≡ third → ⊥) → (answer.Silent reason.OverBudget ≡ third → ⊥)
+      → (answer.Rate (signed_reply key number false (kiss_fields Rate h)) ≡ third → ⊥) → (answer.Silent reason.OverBudget ≡ third → ⊥)
       → kind_answer past o (Signed key number h) ≡ third → ⊥
   served key number h third a b c is = grind (arith, neither)
 

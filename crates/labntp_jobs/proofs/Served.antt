@@ -5,7 +5,7 @@ use Rattle.ntp_packet.specs.{declared.stamp.Stamp.Stamp, Header.HeaderFields}
 use Rattle.ntp_mac.specs.Key.{SymmetricKey}
 use Rattle.ntp_customer.specs.{Customer.budget_of, Past.Past, Past.with_query}
 use Rattle.ntp_reply.specs.{declared.occasion.Occasion.Occasion, declared.kiss.Kiss.TheVariants.Rate, Life.recent_of, Kind.Signed}
-use Rattle.ntp_reply.specs.declared.answers.Answer.{Answer}
+use Rattle.ntp_reply.specs.declared.answers.{Answer.Answer, SignedReply.SignedReply}
 use Rattle.ntp_reply.specs.Replies.{time_fields, kiss_fields, sealed}
 use Rattle.ntp_reply.specs.Exchanged.{matched, stamps_of, after_time}
 use Rattle.ntp_reply.specs.Verdict.{kind_answer, after_kind, query_count, window_at, timed}
@@ -13,16 +13,16 @@ use Rattle.ntp_reply.specs.declared.answers.Answer.TheVariants as answer
 use Rattle.ntp_reply.specs.declared.answers.Reason.TheVariants as reason
 
 -- the answer to a signed query, by whether the budget has room and by whether it was just spent
-abbrev by_budget : Bool → Bool → List ℕ → Stamp → List ℕ → Answer
+abbrev by_budget : Bool → Bool → SignedReply → Stamp → SignedReply → Answer
 by_budget within last time receive rate =
     if within then answer.Time time receive else if last then answer.Rate rate else answer.Silent reason.OverBudget
 
-only-time : (within last : Bool) (time rate reply : List ℕ) (receive saved : Stamp)
-    → by_budget within last time receive rate ≡ answer.Time reply saved → (within ≡ true) × (reply ≡ time) × (saved ≡ receive)
+only-time : (within last : Bool) (time rate reply : SignedReply) (receive saved : Stamp)
+    → by_budget within last time receive rate ≡ answer.Time reply saved → (within ≡ true) × (reply.octets ≡ time.octets) × (saved ≡ receive)
 only-time within last time rate reply receive saved e = grind arith
 
-only-rate : (within last : Bool) (time rate reply : List ℕ) (receive : Stamp)
-    → by_budget within last time receive rate ≡ answer.Rate reply → reply ≡ rate
+only-rate : (within last : Bool) (time rate reply : SignedReply) (receive : Stamp)
+    → by_budget within last time receive rate ≡ answer.Rate reply → reply.octets ≡ rate.octets
 only-rate within last time rate reply receive e = grind arith
 
 module _ (past : Past) (o : Occasion) (key : SymmetricKey) (number : ℕ) (h : HeaderFields) where
@@ -36,18 +36,19 @@ module _ (past : Past) (o : Occasion) (key : SymmetricKey) (number : ℕ) (h : H
   time = sealed key number (time_fields o h (matched (recent_of past) h) (stamps_of past o))
 
   -- the time is in its octets, with the new receive stamp beside them
-  pub told-time : (reply : List ℕ) (saved : Stamp) → kind_answer past o (Signed key number h) ≡ answer.Time reply saved
-      → (reply ≡ time) × (saved ≡ (stamps_of past o).receive)
+  pub told-time : (reply : SignedReply) (saved : Stamp) → kind_answer past o (Signed key number h) ≡ answer.Time reply saved
+      → (reply.octets ≡ time) × (saved ≡ (stamps_of past o).receive)
   told-time reply saved is = grind (arith, only-time)
 
   -- and leaves the past after one
-  pub after-told_time : (reply : List ℕ) (saved : Stamp) → kind_answer past o (Signed key number h) ≡ answer.Time reply saved
+  pub after-told_time : (reply : SignedReply) (saved : Stamp) → kind_answer past o (Signed key number h) ≡ answer.Time reply saved
       → after_kind past o (Signed key number h) ≡ after_time (with_query past (window_at o)) o h
   after-told_time reply saved is = grind (arith, only-time)
 
   -- a RATE is in its octets
-  pub told-rate : (reply : List ℕ) → kind_answer past o (Signed key number h) ≡ answer.Rate reply → reply ≡ sealed key number (kiss_fields Rate h)
-  told-rate reply is = only-rate within last time (sealed key number (kiss_fields Rate h)) reply (stamps_of past o).receive is
+  pub told-rate : (reply : SignedReply) → kind_answer past o (Signed key number h) ≡ answer.Rate reply
+      → reply.octets ≡ sealed key number (kiss_fields Rate h)
+  told-rate reply is = grind (arith, only-rate)
 
   -- while the budget has room, the answer is the time
   pub is-timed : query_count past o < budget_of past → kind_answer past o (Signed key number h) ≡ timed key number o h (recent_of past)

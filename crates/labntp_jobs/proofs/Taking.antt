@@ -14,6 +14,7 @@ use Rattle.ntp_client.specs.declared.taken.Distrust.TheVariants as distrust
 use Rattle.ntp_client.proofs.PublicLaws.{basic-pairing, interleaved-pairing}
 use Rattle.ntp_reply.specs.{Replies.time_fields, Replies.sealed, declared.occasion.Occasion.Occasion, Life.Life, Life.recent_of}
 use Rattle.ntp_reply.specs.{Kind.kind_of, Exchanged.matched, Exchanged.stamps_of, Verdict.verdict}
+use Rattle.ntp_reply.specs.declared.answers.SignedReply.{SignedReply}
 use Rattle.ntp_reply.specs.declared.answers.Answer.TheVariants as answer
 use Rattle.labntp_jobs.specs.Meeting.{WaitsForReply, SharesKey, FitsPacket, request_octets, basic_sample, interleaved_sample}
 use Rattle.labntp_jobs.proofs.{Readings.read-header, Readings.read-sealed, Asked.request-answer, Speaks.kind-speaks}
@@ -24,18 +25,18 @@ use Rattle.labntp_jobs.proofs.Matches.{found-member, matched-apart, asked-match}
 
 module _ (c : ClientState) (q : Outstanding) (past : Past) (o : Occasion) (at : Moment) (waits : WaitsForReply c q) where
   -- a time reply with this exchange matched
-  matched-reply : (reply : List ℕ) (saved : Stamp) (found : Option Slot) → SharesKey past c
+  matched-reply : (reply : SignedReply) (saved : Stamp) (found : Option Slot) → SharesKey past c
       → matched (recent_of past) (query_fields q) ≡ found → verdict (Some past) o (request_octets c q) ≡ answer.Time reply saved
-      → (reply ≡ sealed c.key c.number (time_fields o (query_fields q) found (stamps_of past o)))
+      → (reply.octets ≡ sealed c.key c.number (time_fields o (query_fields q) found (stamps_of past o)))
       × (saved ≡ (stamps_of past o).receive)
   matched-reply reply saved found shares match is =
       let told = told-time past o c.key c.number (query_fields q) reply saved (sym (request-answer c q past o waits shares) ∙ is) in
       (told.0 ∙ ap (λ x. sealed c.key c.number (time_fields o (query_fields q) x (stamps_of past o))) match, told.1)
 
   -- a basic one is taken for the sample of the request and the reply
-  pub basic-met : (reply : List ℕ) (saved : Stamp) → SharesKey past c → FitsPacket o.reference → o.reference.leap ≢ 3
+  pub basic-met : (reply : SignedReply) (saved : Stamp) → SharesKey past c → FitsPacket o.reference → o.reference.leap ≢ 3
       → matched (recent_of past) (query_fields q) ≡ None → verdict (Some past) o (request_octets c q) ≡ answer.Time reply saved
-      → taken_for c reply at ≡ taken.Sample (basic_sample q saved (stamps_of past o).transmit at)
+      → taken_for c reply.octets at ≡ taken.Sample (basic_sample q saved (stamps_of past o).transmit at)
   basic-met reply saved shares state_fits clock match answered =
       let told = matched-reply reply saved None shares match answered in
       ap (λ octets. taken_for c octets at) told.0
@@ -44,10 +45,10 @@ module _ (c : ClientState) (q : Outstanding) (past : Past) (o : Occasion) (at : 
       ∙ ap (λ s. taken.Sample (basic_sample q s (stamps_of past o).transmit at)) (sym told.1)
 
   -- an interleaved one for that of the earlier exchange
-  pub interleaved-met : (reply : List ℕ) (saved : Stamp) (carried : Exchange) (found : Slot) → SharesKey past c → FitsPacket o.reference
+  pub interleaved-met : (reply : SignedReply) (saved : Stamp) (carried : Exchange) (found : Slot) → SharesKey past c → FitsPacket o.reference
       → o.reference.leap ≢ 3 → q.earlier ≡ Some carried → matched (recent_of past) (query_fields q) ≡ Some found
       → AreSaved (recent_of past) → found.transmit.0 < 2 ^ 64 → verdict (Some past) o (request_octets c q) ≡ answer.Time reply saved
-      → taken_for c reply at ≡ taken.Sample (interleaved_sample carried found.transmit)
+      → taken_for c reply.octets at ≡ taken.Sample (interleaved_sample carried found.transmit)
   interleaved-met reply saved carried found shares state_fits clock carries match are fits answered =
       let told = matched-reply reply saved (Some found) shares match answered in
       let stamps = matched-apart (recent_of past) (query_fields q) found match in
@@ -60,10 +61,10 @@ module _ (c : ClientState) (q : Outstanding) (past : Past) (o : Occasion) (at : 
       waits.header.receive fits (interleaved-pairing q carried (query_fields q).receive carries apart receive)
 
   -- a time reply of a clock that is unsynchronised is refused for that: one with this exchange found, and any
-  unsynchronised-by : (reply : List ℕ) (saved : Stamp) (found : Option Slot) (earlier : Option Exchange) → SharesKey past c
+  unsynchronised-by : (reply : SignedReply) (saved : Stamp) (found : Option Slot) (earlier : Option Exchange) → SharesKey past c
       → FitsPacket o.reference → o.reference.leap ≡ 3 → matched (recent_of past) (query_fields q) ≡ found → q.earlier ≡ earlier
       → found ≡ option_and_then (λ e. unused_at (recent_of past) e.receive) earlier → IfSome found (λ x. x.transmit.0 < 2 ^ 64)
-      → verdict (Some past) o (request_octets c q) ≡ answer.Time reply saved → taken_for c reply at ≡ taken.Refused distrust.Unsynchronised
+      → verdict (Some past) o (request_octets c q) ≡ answer.Time reply saved → taken_for c reply.octets at ≡ taken.Refused distrust.Unsynchronised
   unsynchronised-by reply saved None earlier shares state_fits clock match carries asked fits answered =
       ap (λ octets. taken_for c octets at) (matched-reply reply saved None shares match answered).0
       ∙ unsynchronised-taken c q past o at Basic q.transmit (stamps_of past o).transmit waits state_fits clock
@@ -77,17 +78,17 @@ module _ (c : ClientState) (q : Outstanding) (past : Past) (o : Occasion) (at : 
       ∙ unsynchronised-taken c q past o at (Interleaved e) (query_fields q).receive x.transmit waits state_fits clock
       waits.header.receive fits (interleaved-pairing q e (query_fields q).receive carries apart receive)
 
-  pub unsynchronised-met : (reply : List ℕ) (saved : Stamp) → SharesKey past c → FitsPacket o.reference → o.reference.leap ≡ 3
+  pub unsynchronised-met : (reply : SignedReply) (saved : Stamp) → SharesKey past c → FitsPacket o.reference → o.reference.leap ≡ 3
       → IsOutstanding q → AreSaved (recent_of past)
       → IfSome (matched (recent_of past) (query_fields q)) (λ found. found.transmit.0 < 2 ^ 64)
-      → verdict (Some past) o (request_octets c q) ≡ answer.Time reply saved → taken_for c reply at ≡ taken.Refused distrust.Unsynchronised
+      → verdict (Some past) o (request_octets c q) ≡ answer.Time reply saved → taken_for c reply.octets at ≡ taken.Refused distrust.Unsynchronised
   unsynchronised-met reply saved shares state_fits clock is are fits answered =
       unsynchronised-by reply saved (matched (recent_of past) (query_fields q)) q.earlier shares state_fits clock refl refl
       (asked-match q (recent_of past) is are) fits answered
 
   -- a RATE is taken for one
-  pub rate-met : (reply : List ℕ) → SharesKey past c → verdict (Some past) o (request_octets c q) ≡ answer.Rate reply
-      → taken_for c reply at ≡ taken.Rate
+  pub rate-met : (reply : SignedReply) → SharesKey past c → verdict (Some past) o (request_octets c q) ≡ answer.Rate reply
+      → taken_for c reply.octets at ≡ taken.Rate
   rate-met reply shares is = grind (arith, told-rate, request-answer, rate-taken)
 
 -- whatever the life of the address: a crypto-NAK is taken for one

@@ -8,7 +8,7 @@ ghost use Rattle.ntp_customer.specs.Exchanges.{AreSaved, new_exchange, receives,
 ghost use Rattle.ntp_client.specs.{declared.exchange.Exchange.Exchange, declared.exchange.Outstanding.Outstanding};
 ghost use Rattle.ntp_client.specs.{State.ClientState, State.IsOutstanding, Taking.taken_for, Taking.after_taken};
 ghost use Rattle.ntp_client.specs.Query.{query_fields, next_query, after_query};
-ghost use Rattle.ntp_reply.specs.{declared.occasion.Occasion.Occasion, Kind.Signed, Kind.kind_of};
+ghost use Rattle.ntp_reply.specs.{declared.occasion.Occasion.Occasion, declared.answers.SignedReply.SignedReply, Kind.Signed, Kind.kind_of};
 ghost use Rattle.ntp_reply.specs.Life.{Life, recent_of, recent_in};
 ghost use Rattle.ntp_reply.specs.Exchanged.{matched, stamps_of, after_departure};
 ghost use Rattle.ntp_reply.specs.Verdict.{verdict, after_datagram, query_count, timed};
@@ -51,18 +51,18 @@ pub fn a_request_is_a_signed_query()
 pub fn a_time_reply_is_a_sample()
     ensures asked { (q : Outstanding) (saved : List Slot) → IsOutstanding q → AreSaved saved
         → matched saved (query_fields q) ≡ option_and_then (λ e. unused_at saved e.receive) q.earlier }
-    ensures basic { (c : ClientState) (q : Outstanding) (past : Past) (o : Occasion) (reply : List ℕ) (saved : Stamp) (at : Moment)
+    ensures basic { (c : ClientState) (q : Outstanding) (past : Past) (o : Occasion) (reply : SignedReply) (saved : Stamp) (at : Moment)
         → WaitsForReply c q → SharesKey past c → FitsPacket o.reference → o.reference.leap ≢ 3
         → matched (recent_of past) (query_fields q) ≡ None
         → verdict (Some past) o (request_octets c q) ≡ Answer.Time reply saved
-        → taken_for c reply at ≡ Taken.Sample (basic_sample q saved (stamps_of past o).transmit at) }
-    ensures interleaved { (c : ClientState) (q : Outstanding) (past : Past) (o : Occasion) (reply : List ℕ) (saved : Stamp) (at : Moment)
+        → taken_for c reply.octets at ≡ Taken.Sample (basic_sample q saved (stamps_of past o).transmit at) }
+    ensures interleaved { (c : ClientState) (q : Outstanding) (past : Past) (o : Occasion) (reply : SignedReply) (saved : Stamp) (at : Moment)
         (carried : Exchange) (found : Slot)
         → WaitsForReply c q → SharesKey past c → FitsPacket o.reference → o.reference.leap ≢ 3
         → q.earlier ≡ Some carried → matched (recent_of past) (query_fields q) ≡ Some found
         → AreSaved (recent_of past) → found.transmit.0 < 2 ^ 64
         → verdict (Some past) o (request_octets c q) ≡ Answer.Time reply saved
-        → taken_for c reply at ≡ Taken.Sample (interleaved_sample carried found.transmit) }
+        → taken_for c reply.octets at ≡ Taken.Sample (interleaved_sample carried found.transmit) }
 {}
 
 /// After a time reply, the next request of the client asks when that reply departed, and the server can tell: so by
@@ -74,17 +74,17 @@ pub fn a_time_reply_is_a_sample()
 /// - `saved`: the server finds the exchange by its receipt, unused, with the new transmit stamp.
 /// - `departed`: an exchange that it finds it also finds after a report of its departure, with the stamp of that.
 pub fn the_next_request_asks_about_the_exchange()
-    ensures carried { (c : ClientState) (q : Outstanding) (past : Past) (o : Occasion) (reply : List ℕ) (saved : Stamp) (at : Moment)
+    ensures carried { (c : ClientState) (q : Outstanding) (past : Past) (o : Occasion) (reply : SignedReply) (saved : Stamp) (at : Moment)
         (s : Sample) → WaitsForReply c q → SharesKey past c → FitsPacket o.reference
         → IfSome (matched (recent_of past) (query_fields q)) (λ found. found.transmit.0 < 2 ^ 64)
         → verdict (Some past) o (request_octets c q) ≡ Answer.Time reply saved
-        → after_taken c reply at (Taken.Sample s) ≡ record {
+        → after_taken c reply.octets at (Taken.Sample s) ≡ record {
           key = c.key;
           number = c.number;
           outstanding = None;
           sampled = Some (record { transmit = q.transmit; receive = saved; arrival = fresh at.stamp [] });
         } }
-    ensures saved { (c : ClientState) (q : Outstanding) (past : Past) (o : Occasion) (reply : List ℕ) (saved : Stamp)
+    ensures saved { (c : ClientState) (q : Outstanding) (past : Past) (o : Occasion) (reply : SignedReply) (saved : Stamp)
         → WaitsForReply c q → SharesKey past c → verdict (Some past) o (request_octets c q) ≡ Answer.Time reply saved
         → unused_at (recent_in (after_datagram (Some past) o (request_octets c q))) saved
         ≡ Some (new_exchange saved (stamps_of past o).transmit) }
@@ -105,9 +105,9 @@ pub fn the_next_request_asks_about_the_exchange()
 ///
 /// Nothing else is assumed of the life of the address.
 pub fn other_replies_are_taken_for_what_they_are()
-    ensures rate { (c : ClientState) (q : Outstanding) (past : Past) (o : Occasion) (reply : List ℕ) (at : Moment)
+    ensures rate { (c : ClientState) (q : Outstanding) (past : Past) (o : Occasion) (reply : SignedReply) (at : Moment)
         → WaitsForReply c q → SharesKey past c → verdict (Some past) o (request_octets c q) ≡ Answer.Rate reply
-        → taken_for c reply at ≡ Taken.Rate }
+        → taken_for c reply.octets at ≡ Taken.Rate }
     ensures nak { (c : ClientState) (q : Outstanding) (life : Life) (o : Occasion) (reply : List ℕ) (at : Moment)
         → WaitsForReply c q → FitsPacket o.reference → verdict life o (request_octets c q) ≡ Answer.Nak reply
         → taken_for c reply at ≡ Taken.Nak }
@@ -117,10 +117,10 @@ pub fn other_replies_are_taken_for_what_they_are()
     ensures revoked { (c : ClientState) (q : Outstanding) (life : Life) (o : Occasion) (reply : List ℕ) (at : Moment)
         → WaitsForReply c q → verdict life o (request_octets c q) ≡ Answer.Deny reply
         → taken_for c reply at ≡ Taken.Deny }
-    ensures unsynchronised { (c : ClientState) (q : Outstanding) (past : Past) (o : Occasion) (reply : List ℕ) (saved : Stamp)
+    ensures unsynchronised { (c : ClientState) (q : Outstanding) (past : Past) (o : Occasion) (reply : SignedReply) (saved : Stamp)
         (at : Moment) → WaitsForReply c q → SharesKey past c → FitsPacket o.reference → o.reference.leap ≡ 3
         → IsOutstanding q → AreSaved (recent_of past)
         → IfSome (matched (recent_of past) (query_fields q)) (λ found. found.transmit.0 < 2 ^ 64)
         → verdict (Some past) o (request_octets c q) ≡ Answer.Time reply saved
-        → taken_for c reply at ≡ Taken.Refused Distrust.Unsynchronised }
+        → taken_for c reply.octets at ≡ Taken.Refused Distrust.Unsynchronised }
 {}

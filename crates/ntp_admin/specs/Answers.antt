@@ -35,8 +35,8 @@ reason_text reason.OverBudget = codes "over-budget"
 
 -- the answer to a datagram, a reply's octets in lower-case hexadecimal
 abbrev pub answer_text : Answer → List ℕ
-answer_text (answer.Time reply saved) = codes "time " ++ stamp_text saved ++ codes " " ++ encode_lower reply
-answer_text (answer.Rate reply) = codes "rate " ++ encode_lower reply
+answer_text (answer.Time reply saved) = codes "time " ++ stamp_text saved ++ codes " " ++ encode_lower reply.octets
+answer_text (answer.Rate reply) = codes "rate " ++ encode_lower reply.octets
 answer_text (answer.Deny reply) = codes "deny " ++ encode_lower reply
 answer_text (answer.Nak reply) = codes "nak " ++ encode_lower reply
 answer_text (answer.Silent why) = codes "silent " ++ reason_text why

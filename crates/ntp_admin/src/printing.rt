@@ -32,10 +32,10 @@ fn answer_text<A: Allocator + Copy>(alloc: A, answer: &Answer) -> Result<String<
     match answer {
         Answer::Time { reply, saved } => {
             let saved = hex::encode(alloc, saved.0.to_be_bytes())?;
-            let reply = hex::encode(alloc, reply.octets())?;
+            let reply = hex::encode(alloc, reply.octets.octets())?;
             format!(in alloc; "time {saved} {reply}")
         }
-        Answer::Rate(reply) => reply_text(alloc, "rate", reply),
+        Answer::Rate(reply) => reply_text(alloc, "rate", &reply.octets),
         Answer::Deny(reply) => reply_text(alloc, "deny", reply),
         Answer::Nak(reply) => reply_text(alloc, "nak", reply),
         Answer::Silent(reason) => format!(in alloc; "silent {}", reason_text(alloc, *reason)?),

@@ -1,13 +1,11 @@
 //! A server: datagrams in, replies out.
-ghost use Rattle.std.specs.Prelude.{◌≡◌, ◌+◌, ◌-◌, ◌≤◌, ◌<◌, ◌^◌, Option, option_map, OnOk, IfOk, IfErr};
+ghost use Rattle.std.specs.Prelude.{◌≡◌, ◌+◌, ◌-◌, ◌≤◌, ◌<◌, ◌^◌, Option, OnOk, IfOk, IfErr};
 ghost use Rattle.ntp_packet.specs.declared.moment.Moment.{Moment};
 ghost use Rattle.ntp_port.specs.Port.{Told, IncomingValue, ReceiveTells, most_received_octets, failed_calls};
-ghost use Rattle.ntp_reply.specs.Verdict.{reply_in};
 ghost use Rattle.ntp_port.specs.Serving.{ServeMakes, TurnMakes};
 ghost use Rattle.ntp_port.specs.Sending.{IsInTurn, SendingMakes, counted, saved_in};
 
 use crate::port::{DatagramRoom, MOST_RECEIVED_OCTETS, Port, PortFault};
-use ntp_mac::Reply;
 use ntp_packet::Stamp;
 use ntp_reply::{Answer, Reference};
 use ntp_service::{Arrival, Sending, Service, TurnOutcome};
@@ -108,7 +106,7 @@ fn send_reply<P: Port, A: Allocator + Copy>(
         → SendingMakes A answer.now from transmit t (P.told port.new) (P.counts port.old) (P.counts port.new)
         service.old service.new result }
 {
-    let Some(reply) = reply_in(answer) else {
+    let Some(reply) = answer.reply() else {
         return Sending::NoReply;
     };
     let sent = port.send(arrival.address, arrival.port, reply.octets());
@@ -145,23 +143,12 @@ impl Served {
     }
 }
 
-// The reply of an answer, where it has one.
-fn reply_in(answer: &Answer) -> Option<&Reply>
-    ensures { option_map (λ reply. reply.now) result ≡ reply_in answer.now }
-{
-    match answer {
-        Answer::Time { reply, saved: _ } => Some(reply),
-        Answer::Rate(reply) | Answer::Deny(reply) | Answer::Nak(reply) => Some(reply),
-        Answer::Silent(_) => None,
-    }
-}
-
 // The receive stamp of a time reply.
 fn saved_in(answer: &Answer) -> Option<Stamp>
     ensures { result ≡ saved_in answer.now }
 {
     match answer {
-        Answer::Time { reply: _, saved } => Some(*saved),
+        Answer::Time { saved, .. } => Some(*saved),
         _ => None,
     }
 }

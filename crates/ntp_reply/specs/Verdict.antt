@@ -1,12 +1,12 @@
 -- What a datagram is answered, and what it leaves of the life of the address from which it came.
-use Rattle.std.specs.Prelude.{ℕ, List, ◌++◌, Option, Some, None, option_map, length, ◌+◌, ◌==◌, nat_lt, if◌then◌else◌}
+use Rattle.std.specs.Prelude.{ℕ, Bool, false, List, ◌++◌, Option, Some, None, is_some, option_map, length, ◌+◌, ◌==◌, nat_lt, if◌then◌else◌}
 use Rattle.std.specs.Option.{option_map_or}
 use Rattle.ntp_packet.specs.{Moment.window_of, Header.HeaderFields, Header.header_octets, Tail.tail_octets, Request.RequestValue}
 use Rattle.ntp_customer.specs.{Tally.count_in, declared.slot.Slot.Slot, Customer.budget_of}
 use Rattle.ntp_mac.specs.{Key.SymmetricKey, Mac.nak_octets}
 use Rattle.ntp_customer.specs.Past.{Past, queries_in, with_refusal, with_query}
 use Rattle.ntp_reply.specs.{Life.Life, Life.recent_of, declared.kiss.Kiss.TheVariants.Rate, declared.kiss.Kiss.TheVariants.Deny}
-use Rattle.ntp_reply.specs.{declared.occasion.Occasion.Occasion, declared.answers.Answer.Answer}
+use Rattle.ntp_reply.specs.{declared.occasion.Occasion.Occasion, declared.answers.SignedReply.SignedReply, declared.answers.Answer.Answer}
 use Rattle.ntp_reply.specs.Exchanged.{matched, stamps_of, after_time}
 use Rattle.ntp_reply.specs.Kind.{Kind, PassedOver, RefusedByDeny, RefusedByNak, Signed, kind_of}
 use Rattle.ntp_reply.specs.Replies.{new_stamps, basic_fields, time_fields, kiss_fields, sealed}
@@ -25,11 +25,16 @@ refusals_sent = 4
 abbrev pub refused : Past → Occasion → Answer → Answer
 refused past o reply = if nat_lt (count_in past.refusals (window_at o)) refusals_sent then reply else answer.Silent reason.Muted
 
--- a time reply, signed, and beside it its receive stamp (RFC 5905, 9.2; profile, after RFC 9769)
+-- a reply to a signed query, signed with its key: interleaved, or not
+abbrev pub signed_reply : SymmetricKey → ℕ → Bool → HeaderFields → SignedReply
+signed_reply key number interleaved fields =
+    record { octets = sealed key number fields; number = number; is_interleaved = interleaved }
+
+-- a time reply, interleaved where an exchange is matched, and beside it its receive stamp (RFC 5905, 9.2; profile, after RFC 9769)
 abbrev pub timed : SymmetricKey → ℕ → Occasion → HeaderFields → List Slot → Answer
 timed key number o request saved =
-    let stamps = new_stamps o saved in
-    answer.Time (sealed key number (time_fields o request (matched saved request) stamps)) stamps.receive
+    let stamps = new_stamps o saved in let found = matched saved request in
+    answer.Time (signed_reply key number (is_some found) (time_fields o request found stamps)) stamps.receive
 
 -- how many of the newest signed queries of a past lie in the window of an occasion (profile)
 abbrev pub query_count : Past → Occasion → ℕ
@@ -40,7 +45,7 @@ query_count past o = count_in (queries_in past) (window_at o)
 abbrev pub signed_answer : Past → Occasion → SymmetricKey → ℕ → HeaderFields → Answer
 signed_answer past o key number request =
     if nat_lt (query_count past o) (budget_of past) then timed key number o request (recent_of past)
-    else if query_count past o == budget_of past then answer.Rate (sealed key number (kiss_fields Rate request))
+    else if query_count past o == budget_of past then answer.Rate (signed_reply key number false (kiss_fields Rate request))
     else answer.Silent reason.OverBudget
 
 -- the past after a signed query: it is counted, and a time reply is one exchange more (profile)
@@ -75,8 +80,8 @@ after_datagram life o octets = option_map (λ past. after_kind past o (kind_of p
 
 -- the reply of an answer
 abbrev pub reply_in : Answer → Option (List ℕ)
-reply_in (answer.Time reply saved) = Some reply
-reply_in (answer.Rate reply) = Some reply
+reply_in (answer.Time reply saved) = Some reply.octets
+reply_in (answer.Rate reply) = Some reply.octets
 reply_in (answer.Deny reply) = Some reply
 reply_in (answer.Nak reply) = Some reply
 reply_in (answer.Silent why) = None

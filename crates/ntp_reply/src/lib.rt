@@ -14,7 +14,7 @@ mod reference;
 mod refusing;
 mod signed_queries;
 
-pub use answers::{Answer, Reason};
+pub use answers::{Answer, Reason, SignedReply};
 pub use deciding::{answer, answer_octets};
 pub use departing::depart;
 pub use kiss::Kiss;

@@ -1,14 +1,14 @@
 //! Signed queries: each is counted, and as many of a window as the budget get the time.
-ghost use Rattle.std.specs.Prelude.{◌≡◌, ◌+◌, IsSome};
+ghost use Rattle.std.specs.Prelude.{◌≡◌, ◌+◌, false, IsSome};
 ghost use Rattle.ntp_mac.specs.Digest.{digest_length};
 ghost use Rattle.ntp_customer.specs.{Customer.enrolment_at, Past.Past, Past.short};
-ghost use Rattle.ntp_reply.specs.{Life.recent_of, Exchanged.after_time, Kind.Signed, Replies.kiss_fields, Replies.sealed};
-ghost use Rattle.ntp_reply.specs.{Verdict.timed, Verdict.reply_length, Answered.Answers};
+ghost use Rattle.ntp_reply.specs.{Life.recent_of, Exchanged.after_time, Kind.Signed, Replies.kiss_fields, Answered.Answers};
+ghost use Rattle.ntp_reply.specs.Verdict.{signed_reply, timed, reply_length};
 
 use crate::exchanging::exchange;
 use crate::occasion::Occasion;
 use crate::packets::{kiss_fields, time_fields};
-use crate::{Answer, Kiss, Reason};
+use crate::{Answer, Kiss, Reason, SignedReply};
 use ntp_customer::{Customer, NumberedKey};
 use ntp_mac::{Reply, seal};
 use ntp_packet::Header;
@@ -53,20 +53,28 @@ fn time<A: Allocator + Copy>(
 {
     let exchanged = exchange(customer.slots_mut(), request, occasion);
     let stamps = exchanged.stamps;
-    let mut reply = Reply::from_header(&time_fields(occasion, request, exchanged.matched, stamps));
-    seal(&held.key, held.number, &mut reply);
+    let mut octets = Reply::from_header(&time_fields(occasion, request, exchanged.matched, stamps));
+    seal(&held.key, held.number, &mut octets);
     Answer::Time {
-        reply,
+        reply: SignedReply {
+            octets,
+            number: held.number,
+            is_interleaved: exchanged.matched.is_some(),
+        },
         saved: stamps.receive,
     }
 }
 
 // The kiss RATE, sealed with the query's key.
 fn rate(held: &NumberedKey, request: &Header) -> Answer
-    ensures answer { result ≡ Answer.Rate (sealed held.now.key held.now.number (kiss_fields Kiss.Rate request.now)) }
+    ensures answer { result ≡ Answer.Rate (signed_reply held.now.key held.now.number false (kiss_fields Kiss.Rate request.now)) }
     ensures octets { reply_length result ≡ 52 + digest_length held.now.key.algorithm }
 {
-    let mut reply = Reply::from_header(&kiss_fields(Kiss::Rate, request));
-    seal(&held.key, held.number, &mut reply);
-    Answer::Rate(reply)
+    let mut octets = Reply::from_header(&kiss_fields(Kiss::Rate, request));
+    seal(&held.key, held.number, &mut octets);
+    Answer::Rate(SignedReply {
+        octets,
+        number: held.number,
+        is_interleaved: false,
+    })
 }

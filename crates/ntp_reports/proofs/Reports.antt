@@ -9,10 +9,9 @@ use Rattle.ntp_service.specs.{declared.observation.Observation.Observation, decl
 use Rattle.ntp_service.specs.{declared.observation.Sending.Sending, declared.observation.TurnOutcome.TurnOutcome}
 use Rattle.ntp_service.specs.declared.observation.TurnOutcome.TheVariants.{Answered, NothingReceived}
 use Rattle.ntp_reply.specs.declared.answers.Answer.{Answer}
-use Rattle.ntp_reports.specs.{declared.signing.Signing.Signing, declared.customer_report.KeyUse.KeyUse}
-use Rattle.ntp_reports.specs.declared.customer_report.CustomerReport.{CustomerReport}
-use Rattle.ntp_reports.specs.{declared.customer_counts.CustomerCounts.CustomerCounts, Counted.AreCounts, Signing.signing_in}
-use Rattle.ntp_reports.specs.Customers.{used_by, key_numbered, Takes}
+use Rattle.ntp_reports.specs.declared.customer_report.{KeyUse.KeyUse, Signing.Signing, CustomerReport.CustomerReport}
+use Rattle.ntp_reports.specs.{declared.customer_counts.CustomerCounts.CustomerCounts, Counted.AreCounts}
+use Rattle.ntp_reports.specs.Customers.{signing_in, used_by, key_numbered, Takes}
 use Rattle.ntp_reports.specs.Reported.{comes_from, told_of, signed_at, report_at, IfThere, TakesTurn, CountsOf, SignsAs, ReportsTurn}
 
 -- the last signing under a number: the first one from the newest observation back

@@ -4,9 +4,11 @@ use Rattle.std.specs.{Option.option_map_or, Option.option_to_list, Int.NonZero.n
 use Rattle.ntp_service.specs.{declared.command.Command.Command, declared.observation.Observation.TheVariants.Turn}
 use Rattle.ntp_service.specs.declared.observation.TurnOutcome.{TurnOutcome}
 use Rattle.ntp_service.specs.declared.command.Command.TheVariants.{Enrol, Revoke, Rollover, Retire}
-use Rattle.ntp_reports.specs.{declared.signing.Signing.Signing, declared.customer_report.KeyUse.KeyUse}
-use Rattle.ntp_reports.specs.declared.customer_report.CustomerReport.{CustomerReport}
-use Rattle.ntp_reports.specs.{Counted.CountsOneMore, Counted.nothing_counted, Signing.signing_in}
+use Rattle.ntp_service.specs.declared.observation.TurnOutcome.TheVariants.{NothingReceived, Answered}
+use Rattle.ntp_reply.specs.declared.answers.{Answer.Answer, SignedReply.SignedReply}
+use Rattle.ntp_reply.specs.declared.answers.Answer.TheVariants as answer
+use Rattle.ntp_reports.specs.declared.customer_report.{KeyUse.KeyUse, Signing.Signing, CustomerReport.CustomerReport}
+use Rattle.ntp_reports.specs.{Counted.CountsOneMore, Counted.nothing_counted}
 
 -- a key that has signed nothing
 abbrev pub new_key : ℕ → KeyUse
@@ -46,6 +48,17 @@ report_after before (Revoke address) line = option_map {T = CustomerReport} (λ 
 report_after before (Rollover address number key) line = option_map (λ report. rolled_over report (non_zero_u16_get number)) before
 report_after before (Retire address number) line = option_map (λ report. retired report (non_zero_u16_get number)) before
 report_after before other line = before
+
+-- the reply to a signed query: the time, or RATE
+abbrev pub signed_in : Answer → Option SignedReply
+signed_in (answer.Time reply saved) = Some reply
+signed_in (answer.Rate reply) = Some reply
+signed_in other = None
+
+-- under which key number the query of a turn was signed that got one, and when it came
+abbrev pub signing_in : TurnOutcome → Option Signing
+signing_in NothingReceived = None
+signing_in (Answered arrival a sending) = option_map (λ reply. record { number = reply.number; receipt = arrival.receipt }) (signed_in a)
 
 -- a key after a turn in which a query was signed, or none was: the key that signed has its receipt
 abbrev pub used_by : Option Signing → KeyUse → KeyUse

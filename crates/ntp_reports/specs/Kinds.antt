@@ -1,9 +1,7 @@
 -- What an observation is counted as.
-use Rattle.std.specs.Prelude.{ℕ, Bool, ◌==◌, ◌&&◌, nat_le, List, [], ◌∷◌, length, take, drop, if◌then◌else◌}
-use Rattle.std.specs.Int.{is_negative}
+use Rattle.std.specs.Prelude.{ℕ, Bool, ◌==◌, List, [], ◌∷◌, if◌then◌else◌}
 use denote.Enum.Declared.{tag_of}
-use Rattle.ntp_packet.specs.{Difference.difference, Header.header_length, declared.malformed.Malformed.Malformed}
-use Rattle.ntp_admin.specs.Words.{stamp_of}
+use Rattle.ntp_packet.specs.declared.malformed.Malformed.{Malformed}
 use Rattle.ntp_packet.specs.declared.malformed.Malformed.TheVariants as malformed
 use Rattle.ntp_service.specs.{declared.refusal.Refusal.Refusal, declared.observation.LineOutcome.LineOutcome}
 use Rattle.ntp_service.specs.{declared.observation.Observation.Observation, declared.observation.Sending.Sending}
@@ -45,15 +43,9 @@ silence_kind reason.Bare = kind.Bare
 silence_kind reason.Muted = kind.Muted
 silence_kind reason.OverBudget = kind.OverBudget
 
--- whether a time reply tells the departure of an earlier one (RFC 9769, 2): it has the octets of a header, and its transmit stamp,
--- at octet 40, lies before its receive stamp, at octet 32 (RFC 5905, 7.3)
-abbrev pub tells_departure : List ℕ → Bool
-tells_departure reply = nat_le header_length (length reply)
-    && is_negative (difference (stamp_of (take 8 (drop 40 reply))) (stamp_of (take 8 (drop 32 reply))))
-
--- an answer, time by which departure it tells
+-- an answer, time by whether it is interleaved
 abbrev pub answer_kind : Answer → Kind
-answer_kind (answer.Time reply saved) = if tells_departure reply then kind.Interleaved else kind.Basic
+answer_kind (answer.Time reply saved) = if reply.is_interleaved then kind.Interleaved else kind.Basic
 answer_kind (answer.Rate reply) = kind.Rate
 answer_kind (answer.Deny reply) = kind.Deny
 answer_kind (answer.Nak reply) = kind.Nak

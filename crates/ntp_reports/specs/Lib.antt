@@ -4,7 +4,6 @@ pub mod Statistics
 pub mod AnswerText
 pub mod Logging
 pub mod Allowing
-pub mod Signing
 pub mod Customers
 pub mod Reported
 pub mod Observing

@@ -7,9 +7,9 @@ use Rattle.ntp_service.specs.{declared.observation.LineOutcome.LineOutcome, decl
 use Rattle.ntp_service.specs.{declared.observation.Observation.Observation, declared.observation.Observation.TheVariants.Turn}
 use Rattle.ntp_service.specs.{declared.observation.TurnOutcome.TurnOutcome, declared.observation.TurnOutcome.TheVariants.Answered}
 use Rattle.ntp_service.specs.Commands.{address_named}
-use Rattle.ntp_reports.specs.{declared.signing.Signing.Signing, declared.customer_report.CustomerReport.CustomerReport}
-use Rattle.ntp_reports.specs.{declared.customer_counts.CustomerCounts.CustomerCounts, Counted.AreCounts, Signing.signing_in}
-use Rattle.ntp_reports.specs.Customers.{key_numbered, report_after, Takes}
+use Rattle.ntp_reports.specs.{declared.customer_report.Signing.Signing, declared.customer_report.CustomerReport.CustomerReport}
+use Rattle.ntp_reports.specs.{declared.customer_counts.CustomerCounts.CustomerCounts, Counted.AreCounts}
+use Rattle.ntp_reports.specs.Customers.{key_numbered, report_after, signing_in, Takes}
 
 -- whether an observation is of a datagram from an address
 abbrev pub comes_from : Address → Observation → Bool

@@ -1,10 +1,10 @@
 //! What is reported of one customer.
 ghost use Rattle.std.specs.Prelude.{◌≡◌, [], ◌∷◌, ◌==◌, option_map, option_and_then};
-ghost use Rattle.ntp_reports.specs.Customers.{new_key, enrolled_again, rolled_over, retired, report_after, key_numbered, used_by, Takes};
+ghost use Rattle.ntp_reports.specs.Customers.{new_key, enrolled_again, rolled_over, retired, report_after, key_numbered, signing_in, used_by, Takes};
 
 use crate::counts::Counts;
-use crate::signing::{Signing, signing_in};
 use ntp_packet::Moment;
+use ntp_reply::Answer;
 use ntp_service::{Command, TurnOutcome};
 
 /// A key number of a customer, and when it signed last.
@@ -147,12 +147,36 @@ fn retired(report: CustomerReport, number: u16) -> CustomerReport
     }
 }
 
+// That a query was signed, and got the time or RATE: the number of its key, and when it came.
+#[derive(Clone, Copy, Debug, PartialEq, Eq)]
+struct Signing {
+    number: u16,
+    receipt: Moment,
+}
+
+// Under which key number the query of a turn was signed that got the time or RATE, and when it came.
+fn signing_in(outcome: &TurnOutcome) -> Option<Signing>
+    ensures { result ≡ signing_in outcome.now }
+{
+    match outcome {
+        TurnOutcome::Answered {
+            arrival,
+            answer: Answer::Time { reply, .. } | Answer::Rate(reply),
+            ..
+        } => Some(Signing {
+            number: reply.number,
+            receipt: arrival.receipt,
+        }),
+        _ => None,
+    }
+}
+
 // A key after a turn in which a query was signed, or none was.
 fn used(key: Option<KeyUse>, signing: Option<Signing>) -> Option<KeyUse>
     ensures { result ≡ option_map (used_by signing) key }
 {
     match (key, signing) {
-        (Some(key), Some(signing)) if u32::from(key.number) == signing.number => Some(KeyUse {
+        (Some(key), Some(signing)) if key.number == signing.number => Some(KeyUse {
             last_signed: Some(signing.receipt),
             ..key
         }),

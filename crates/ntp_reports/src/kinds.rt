@@ -1,11 +1,9 @@
 //! What answers and lines are counted as.
-ghost use Rattle.std.specs.Prelude.{◌≡◌, ◌+◌, ◌≤◌, length, take, drop};
-ghost use Rattle.ntp_admin.specs.Words.{stamp_of};
-ghost use Rattle.ntp_reports.specs.Kinds.{tells_departure, answer_kind, silence_kind, malformed_kind, line_kind, refusal_kind};
+ghost use Rattle.std.specs.Prelude.{◌≡◌};
+ghost use Rattle.ntp_reports.specs.Kinds.{answer_kind, silence_kind, malformed_kind, line_kind, refusal_kind};
 
 use crate::kind::Kind;
-use ntp_mac::Reply;
-use ntp_packet::{HEADER_OCTETS, Malformed, Stamp, difference};
+use ntp_packet::Malformed;
 use ntp_reply::{Answer, Reason};
 use ntp_service::{LineOutcome, Refusal};
 
@@ -14,31 +12,13 @@ pub(crate) fn answer_kind(answer: &Answer) -> Kind
     ensures { result ≡ answer_kind answer.now }
 {
     match answer {
-        Answer::Time { reply, .. } if tells_departure(reply) => Kind::Interleaved,
+        Answer::Time { reply, .. } if reply.is_interleaved => Kind::Interleaved,
         Answer::Time { .. } => Kind::Basic,
         Answer::Rate(_) => Kind::Rate,
         Answer::Deny(_) => Kind::Deny,
         Answer::Nak(_) => Kind::Nak,
         Answer::Silent(reason) => silence_kind(*reason),
     }
-}
-
-// Whether a time reply tells the departure of an earlier one (RFC 9769, 2): its transmit stamp lies before its receive
-// stamp.
-fn tells_departure(reply: &Reply) -> bool
-    ensures { result ≡ tells_departure reply.now }
-{
-    let octets = reply.octets();
-    // The transmit stamp stands at octet 40, the receive stamp at octet 32 (RFC 5905, 7.3).
-    octets.len() >= HEADER_OCTETS && difference(stamp_at(octets, 40), stamp_at(octets, 32)) < 0
-}
-
-// The stamp at a place.
-fn stamp_at(octets: &[u8], at: usize) -> Stamp
-    requires { at + 8 ≤ length octets.now }
-    ensures { result ≡ stamp_of (take 8 (drop at octets.now)) }
-{
-    Stamp(u64::from_be_bytes(*octets[at..].first_chunk().unwrap()))
 }
 
 // What a datagram without a reply is counted as.

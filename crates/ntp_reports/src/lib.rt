@@ -11,7 +11,6 @@ mod kind;
 mod kinds;
 mod line_allowance;
 mod logging;
-mod signing;
 mod statistics;
 
 pub use answer_lines::AnswerLines;

@@ -140,7 +140,7 @@ impl Expected {
         let sending = self.sending(&answer, sends)?;
         if sending == Sending::NotSent {
             self.not_sent = self.not_sent.saturating_add(1);
-        } else if let Some(reply) = reply_in(&answer) {
+        } else if let Some(reply) = answer.reply() {
             self.replies.push(Due {
                 address: arrival.address,
                 port: arrival.port,
@@ -172,14 +172,5 @@ impl Expected {
     fn turn(&mut self, outcome: &TurnOutcome) {
         self.turns = self.turns.saturating_add(1);
         self.counts.count_turn(outcome);
-    }
-}
-
-// The reply of an answer, where it has one.
-fn reply_in(answer: &Answer) -> Option<&Reply> {
-    match answer {
-        Answer::Time { reply, .. } => Some(reply),
-        Answer::Rate(reply) | Answer::Deny(reply) | Answer::Nak(reply) => Some(reply),
-        Answer::Silent(_) => None,
     }
 }

@@ -243,7 +243,8 @@ impl Script {
     ) -> Result<Option<Reply>, Fail> {
         match answer {
             Answer::Silent(_) => Ok(None),
-            Answer::Rate(reply) | Answer::Deny(reply) | Answer::Nak(reply) => Ok(Some(reply)),
+            Answer::Rate(reply) => Ok(Some(reply.octets)),
+            Answer::Deny(reply) | Answer::Nak(reply) => Ok(Some(reply)),
             Answer::Time { reply, saved } => {
                 let moment = departure_at(at)?;
                 self.plan.departed(address, saved, moment);
@@ -252,7 +253,7 @@ impl Script {
                     receive: saved,
                     moment,
                 })?;
-                Ok(Some(reply))
+                Ok(Some(reply.octets))
             }
         }
     }

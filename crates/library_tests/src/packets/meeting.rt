@@ -58,16 +58,10 @@ fn taken(
     let transmit = moment(receipt.wrapping_add(0x100));
     let reference = server.reference;
     let receipt = moment(receipt);
-    match server
+    let answer = server
         .service
-        .datagram(CUSTOMER, receipt, transmit, &reference, octets)
-    {
-        Answer::Time { reply, .. }
-        | Answer::Rate(reply)
-        | Answer::Deny(reply)
-        | Answer::Nak(reply) => Some(client.take(reply.octets(), moment(at))),
-        Answer::Silent(_) => None,
-    }
+        .datagram(CUSTOMER, receipt, transmit, &reference, octets);
+    Some(client.take(answer.reply()?.octets(), moment(at)))
 }
 
 // What a client takes the reply for to its own request, by when that left and came, and when the reply arrived.

@@ -2,8 +2,8 @@
 
 use ntp_admin::parse_command;
 use ntp_mac::Reply;
-use ntp_packet::{Moment, Stamp};
-use ntp_reply::{Answer, Reason};
+use ntp_packet::{Header, Moment, Stamp};
+use ntp_reply::{Answer, Reason, SignedReply};
 use ntp_reports::{CustomerCounts, Kind, customer_line};
 use ntp_service::{Address, Arrival, Command, LineOutcome, Sending, Service, TurnOutcome};
 use std::alloc::{Allocator, Global};
@@ -38,19 +38,21 @@ fn turn(address: Address, receipt: Moment, answer: Answer) -> TurnOutcome {
     }
 }
 
-// A reply that is sealed by the key of a number.
-fn sealed(number: u32) -> Option<Reply> {
-    let mut octets = [0; 68];
-    octets[48..52].copy_from_slice(&number.to_be_bytes());
-    Reply::from_octets(&octets)
+// A reply that is signed with the key of a number.
+fn signed(number: u16) -> SignedReply {
+    SignedReply {
+        octets: Reply::from_header(&Header::blank(4, 4)),
+        number,
+        is_interleaved: false,
+    }
 }
 
-// The time, sealed by the key of a number.
-fn time(number: u32) -> Option<Answer> {
-    Some(Answer::Time {
-        reply: sealed(number)?,
+// The time, signed with the key of a number.
+fn time(number: u16) -> Answer {
+    Answer::Time {
+        reply: signed(number),
         saved: Stamp(1),
-    })
+    }
 }
 
 // What a service answers to a command.
@@ -108,7 +110,7 @@ fn reports<'a>(
     }
     let signed = moment(0xec00_0000_0000_0000);
     memory.refuse_all();
-    assert!(rt; hear(counts, signed) == Some(()));
+    hear(counts, signed);
     memory.refuse_none();
     assert!(rt; memory.refused() == 0);
     assert!(rt; is_reported(counts, signed));
@@ -128,13 +130,13 @@ fn a_customer_is_reported_of(rt: HostRuntime) -> Result<(), Fail> {
 }
 
 // Tells of four datagrams, the last a stranger's, and of a turn in which nothing could be received.
-fn hear<A: Allocator + Copy>(counts: &mut CustomerCounts<A>, first: Moment) -> Option<()> {
-    counts.turn(&turn(CUSTOMER, moment(1), Answer::Rate(sealed(7)?)));
-    counts.turn(&turn(CUSTOMER, first, time(7)?));
-    counts.turn(&turn(CUSTOMER, moment(2), Answer::Deny(sealed(8)?)));
+fn hear<A: Allocator + Copy>(counts: &mut CustomerCounts<A>, first: Moment) {
+    counts.turn(&turn(CUSTOMER, moment(1), Answer::Rate(signed(7))));
+    counts.turn(&turn(CUSTOMER, first, time(7)));
+    let denial = signed(8).octets;
+    counts.turn(&turn(CUSTOMER, moment(2), Answer::Deny(denial)));
     counts.turn(&turn(STRANGER, moment(3), Answer::Silent(Reason::Unregistered)));
     counts.turn(&TurnOutcome::NothingReceived);
-    Some(())
 }
 
 // This is the line of the customer.

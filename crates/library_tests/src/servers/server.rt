@@ -6,17 +6,18 @@
 use crate::servers::failing_port::FailingPort;
 use crate::servers::looks::commands;
 use ntp_admin::parse_command;
+use ntp_host::UdpPort;
 use ntp_mac::Reply;
 use ntp_packet::{Moment, Stamp};
 use ntp_port::{FixedReference, ReferenceSource, TimedPort};
-use ntp_reply::{Answer, Reason, Reference};
+use ntp_reply::{Answer, Reason, Reference, SignedReply};
 use ntp_server::{NoReports, Reporter, Server};
 use ntp_service::{Arrival, LineOutcome, Observation, Sending, Service, TurnOutcome};
 use std::alloc::{Allocator, Global};
 use std::process::Abort;
 use std::test::Fail;
 use test_support::{
-    CUSTOMER, MemoryCommands, MemoryObserver, MemoryPort, MemoryStates, Refusing, moment, queries,
+    CUSTOMER, MemoryCommands, MemoryObserver, MemoryStates, MemoryWire, Refusing, moment, queries,
     reference, replies, turn,
 };
 
@@ -106,16 +107,16 @@ impl ReferenceSource for Tended {
     }
 }
 
+// A port over a wire in memory.
+type WirePort<A> = UdpPort<MemoryWire<A>>;
+
 // A port to which the customer's octets come: from a UDP port, at a stamp.
-fn port<A: Allocator + Copy>(
-    alloc: A,
-    coming: &[(u16, u64, &[u8])],
-) -> Result<MemoryPort<A>, Fail> {
+fn port<A: Allocator + Copy>(alloc: A, coming: &[(u16, u64, &[u8])]) -> Result<WirePort<A>, Fail> {
     let mut turns = Vec::new(alloc);
     for (port, receipt, octets) in coming {
         turns.push(turn(alloc, *port, *receipt, octets, true)?)?;
     }
-    Ok(MemoryPort::new(alloc, turns)?)
+    Ok(UdpPort::new(MemoryWire::new(alloc, turns)?))
 }
 
 // A server that knows nobody. Its observer has room for `room` observations.
@@ -153,7 +154,11 @@ where
 // What is told of a datagram before the enrolment, of one behind it, and of one behind the revocation.
 fn told_of_three_turns() -> Result<[Observation; 5], Fail> {
     let [first, ..] = replies();
-    let reply = Reply::from_octets(&first).ok_or("no reply")?;
+    let reply = SignedReply {
+        octets: Reply::from_octets(&first).ok_or("no reply")?,
+        number: 7,
+        is_interleaved: false,
+    };
     let denial = Reply::from_octets(DENIAL).ok_or("no denial")?;
     let saved = Stamp(SECOND_RECEIPT);
     let silence = Answer::Silent(Reason::Unregistered);
@@ -172,7 +177,7 @@ fn told_of_three_turns() -> Result<[Observation; 5], Fail> {
 }
 
 // A port to which datagrams come one behind another.
-fn port_of_three<A: Allocator + Copy>(alloc: A) -> Result<MemoryPort<A>, Fail> {
+fn port_of_three<A: Allocator + Copy>(alloc: A) -> Result<WirePort<A>, Fail> {
     let [first, second, _] = queries();
     let coming: [(u16, u64, &[u8]); 3] = [
         (5001, FIRST_RECEIPT, &first),
@@ -183,7 +188,7 @@ fn port_of_three<A: Allocator + Copy>(alloc: A) -> Result<MemoryPort<A>, Fail> {
 }
 
 // A port to which those come that are signed under two keys.
-fn port_of_three_signed<A: Allocator + Copy>(alloc: A) -> Result<MemoryPort<A>, Fail> {
+fn port_of_three_signed<A: Allocator + Copy>(alloc: A) -> Result<WirePort<A>, Fail> {
     let [first, second, _] = queries();
     let coming: [(u16, u64, &[u8]); 3] = [
         (5001, SECOND_RECEIPT, &first),
@@ -221,7 +226,7 @@ fn commands_are_carried_out_before_the_datagram_is_answered(rt: HostRuntime) -> 
 
 // A server whose memory can be refused, of a customer with two keys.
 type SignedServer<'a> = Server<
-    MemoryPort<&'a Refusing<Global>>,
+    WirePort<&'a Refusing<Global>>,
     MemoryCommands<&'a Refusing<Global>>,
     MemoryStates<&'a Refusing<Global>>,
     MemoryObserver<&'a Refusing<Global>>,
@@ -245,7 +250,7 @@ fn serving_takes_no_memory_where_no_commands_change(rt: HostRuntime) -> Result<(
     let before = memory.calls();
     memory.refuse_all();
     served(&rt, &mut server, 3, &mut NoReports);
-    assert!(rt; server.port.sent().len() == 3);
+    assert!(rt; server.port.wire.sent().len() == 3);
     assert!(rt; memory.calls() == before);
     assert!(rt; server.observer.has_missed() && server.observer.seen().len() == 3);
     Ok(())
@@ -295,7 +300,7 @@ fn unbegun_server(
     alloc: Global,
 ) -> Result<
     Server<
-        MemoryPort<Global>,
+        WirePort<Global>,
         MemoryCommands<Global>,
         FixedReference,
         MemoryObserver<Global>,

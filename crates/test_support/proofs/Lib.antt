@@ -1,5 +1,4 @@
 mod Asking
 mod Handed
 mod Walking
-mod Receiving
 mod WireTurns

@@ -1,10 +1,10 @@
--- What a wire in memory tells.
-use Rattle.std.specs.Prelude.{◌-◌, Option, None, Some, option_map, [], ◌∷◌, map, drop, slice_get, if◌then◌else◌}
+-- What wires in memory tell.
+use Rattle.std.specs.Prelude.{◌-◌, Option, None, Some, option_map, List, [], ◌∷◌, map, drop, reverse, slice_get, if◌then◌else◌}
 use Rattle.std.specs.Option.{option_map_or}
 use Rattle.ntp_packet.specs.declared.moment.Moment.{Moment}
-use Rattle.ntp_port.specs.Port.{ReadClock, TriedSend, Readings}
+use Rattle.ntp_port.specs.{declared.queue_event.QueueEvent.QueueEvent, Port.ReadClock, Port.TriedSend, Port.Readings}
 use Rattle.ntp_host.specs.Wire.{WireDatagram, WireTurn, no_wire_turn, WireTold}
-use Rattle.test_support.specs.{declared.memory_turn.Incoming.Incoming, declared.memory_turn.Turn.Turn, declared.memory_wire.MemoryWire.MemoryWire}
+use Rattle.test_support.specs.declared.{memory_wire.Incoming.Incoming, memory_wire.Turn.Turn, memory_wire.MemoryWire.MemoryWire, memory_queue.Log.Log}
 
 -- a datagram of a list of turns, as a wire tells it
 abbrev pub wire_datagram : {A : Type 0} → Incoming A → WireDatagram
@@ -43,3 +43,7 @@ told_by_wire w = record {
   has_tried_send = w.has_tried_send;
   sent = w.sent.items;
 }
+
+-- the history that is kept, newest first, where there was room for all of it
+abbrev pub history_in : {A : Type 0} → Log A → Option (List QueueEvent)
+history_in log = if log.has_missed then None else Some (reverse log.events.items)

@@ -1,15 +1,20 @@
 //! A queue in memory.
-ghost use Rattle.std.specs.Prelude.{◌≡◌, ◌≤◌, ◌<◌, [], ◌∷◌, ◌++◌, false, Some, IfOk, IsTrue, reverse, slice_index, vec_len, ◌↔◌};
-ghost use Rattle.ntp_port.specs.Queue.{last_reading};
+ghost use Rattle.std.specs.Prelude.{◌≡◌, ◌≤◌, ◌<◌, ℕ, [], ◌∷◌, ◌++◌, false, Some, IfOk, IsTrue, reverse, slice_index, vec_len, is_ok, ◌↔◌, if◌then◌else◌};
+ghost use Rattle.ntp_port.specs.{Queue.last_reading, Queue.TellsEvents, Port.most_received_octets};
+ghost use Rattle.ntp_port.specs.declared.queue_event.QueueEvent.{QueueEvent};
+ghost use Rattle.ntp_host.specs.Wire.{seen_in_receive};
 
-use crate::memory_port::MemoryPort;
+use crate::memory_wire::MemoryWire;
+use ntp_host::{QueuedWire, Wire};
 use ntp_packet::Moment;
-use ntp_port::{Arrival, DatagramRoom, Port, PortFault, QueueEvent, QueuedPort, Sent, TimedPort};
-use ntp_service::{Address, NoMemory};
+use ntp_port::{DatagramRoom, MOST_RECEIVED_OCTETS, QueueEvent, Sent};
+use ntp_service::NoMemory;
 use std::alloc::{Allocator, Global};
+use std::io::{self, ErrorKind};
+use std::net::{SocketAddr, SocketAddrV4};
 
 // What was seen, oldest first, as far as there was room for it.
-#[derive(Debug, Drop)]
+#[derive(Drop)]
 struct Log<A: Allocator> {
     events: Vec<QueueEvent, A>,
     // Whether there was no room for one.
@@ -30,51 +35,49 @@ impl<A: Allocator> Log<A> {
     }
 }
 
-/// A port over a queue in memory: the datagrams of a port's turns come to it, each at its moment, and its clock shows the
-/// readings of a list, and the last one for ever. It tells its turns; and what it has seen as long as it had room for all.
+/// A wire in memory with a queue: the datagrams of its turns come each at its moment, and the clock that never goes back shows the
+/// readings of a list. It says what it has seen of its queue, as long as it had room for all.
 ///
-/// The moments stand in the order in which the datagrams come. A wait ends just before the next reading; a datagram that comes by
-/// then is taken. A look sees those that came by the last reading.
-#[derive(Debug, Drop)]
+/// The moments stand in the order in which the datagrams come. A wait ends just before the next reading; a datagram that has come by
+/// then is received. A look sees those that have come by the last reading. Once all readings were made no receive ends idle: what is left
+/// is received, and then nothing.
+#[derive(Drop)]
 pub struct MemoryQueue<A: Allocator = Global> {
-    port: MemoryPort<A>,
+    wire: MemoryWire<A>,
     // When the datagram of each turn comes, in nanoseconds of the queue's clock.
     due: Vec<u64, A>,
     taken: usize,
     readings: Vec<u64, A>,
     read: usize,
     shown: u64,
-    idle_waits: u64,
     log: Log<A>,
     ghost within: { taken ≤ vec_len due },
     ghost last: { log.has_missed ≡ false → last_reading (reverse log.events.items) ≡ shown },
 }
 
 impl<A: Allocator> MemoryQueue<A> {
-    ghost use Rattle.test_support.specs.Memory.{told_by, history_in};
+    ghost use Rattle.test_support.specs.Wires.{told_by_wire, history_in};
 
-    /// A queue to which the datagrams of the port's turns come at these moments, and a clock that shows these readings, all in
-    /// nanoseconds. The room for `room` events is taken from `alloc` here, so that no call of the port takes memory: `NoMemory` only
-    /// where it was refused.
+    /// A wire whose turns' datagrams come at the moments `due`, and whose clock shows `readings`, all in nanoseconds. The room for `room`
+    /// events is taken from `alloc` here: `NoMemory` only where it was refused.
     pub fn new(
         alloc: A,
-        port: MemoryPort<A>,
+        wire: MemoryWire<A>,
         due: Vec<u64, A>,
         readings: Vec<u64, A>,
         room: usize,
     ) -> Result<MemoryQueue<A>, NoMemory>
-        ensures told { IfOk result (λ queue. told_by queue.port ≡ told_by port) }
+        ensures wire { IfOk result (λ queue. told_by_wire queue.wire ≡ told_by_wire wire) }
         ensures history { IfOk result (λ queue. history_in queue.log ≡ Some []) }
     {
         let events = Vec::with_capacity(alloc, room)?;
         Ok(MemoryQueue {
-            port,
+            wire,
             due,
             taken: 0,
             readings,
             read: 0,
             shown: 0,
-            idle_waits: 0,
             log: Log {
                 events,
                 has_missed: false,
@@ -84,19 +87,9 @@ impl<A: Allocator> MemoryQueue<A> {
 
     /// What was sent, in order.
     pub fn sent(&self) -> &[Sent]
-        ensures { result.now ≡ (told_by self.now.port).sent }
+        ensures { result.now ≡ (told_by_wire self.now.wire).sent }
     {
-        self.port.sent()
-    }
-
-    // What the clock will show next.
-    fn next_reading(&self) -> u64
-        ensures { self.now.shown ≤ result }
-    {
-        match self.readings.get(self.read) {
-            Some(reading) => self.shown.max(*reading),
-            None => self.shown,
-        }
+        self.wire.sent()
     }
 
     // Whether the next datagram has come by a moment.
@@ -105,59 +98,61 @@ impl<A: Allocator> MemoryQueue<A> {
     {
         self.taken < self.due.len() && self.due[self.taken] <= moment
     }
-}
 
-impl<A: Allocator> Port for MemoryQueue<A> {
-    ghost use Rattle.test_support.specs.Memory.{told_by, memory_counts};
+    // Whether a wait ends with no datagram.
+    fn is_idle(&self) -> bool {
+        match self.readings.get(self.read) {
+            Some(next) => !self.has_come_by(self.shown.max(*next)),
+            None => false,
+        }
+    }
 
-    ghost told = { λ queue. Some (told_by queue.port) };
-
-    ghost counts = { λ queue. record (memory_counts queue.port) { idle_waits = queue.idle_waits } };
-
-    fn receive(&mut self, datagram: &mut DatagramRoom) -> Result<Arrival, PortFault> {
-        let received = self.port.receive(datagram);
-        if received.is_ok() && self.taken < self.due.len() {
-            self.taken += 1;
+    // Receives the datagram of the next turn.
+    fn take(&mut self, room: &mut DatagramRoom) -> io::Result<(usize, SocketAddr)>
+        ensures length { IfOk result (λ taken. taken.0 ≤ most_received_octets) }
+        ensures history { TellsEvents (history_in self.old.log) (history_in self.new.log) (seen_in_receive result) }
+        ensures seen { (shown : ℕ) → seen_in_receive result shown ≡ (if is_ok result then QueueEvent.Taken shown ∷ [] else []) }
+    {
+        let received = self.wire.receive(room);
+        if received.is_ok() {
+            self.taken = self.due.len().min(self.taken.saturating_add(1));
             self.log.see(QueueEvent::Taken(self.shown));
         }
         received
     }
+}
+
+impl<A: Allocator> Wire for MemoryQueue<A> {
+    ghost use Rattle.test_support.specs.Wires.{history_in};
+
+    ghost seen = { λ queue. history_in queue.log };
+
+    fn receive(&mut self, room: &mut DatagramRoom) -> io::Result<(usize, SocketAddr)> {
+        if self.is_idle() {
+            let at = self.shown;
+            self.log.see(QueueEvent::Held { count: 0, at });
+            return Err(io::Error::from(ErrorKind::WouldBlock));
+        }
+        self.take(room)
+    }
+
+    fn send(&mut self, target: SocketAddrV4, reply: &[u8]) -> io::Result<usize> {
+        self.wire.send(target, reply)
+    }
 
     fn now(&mut self) -> Moment {
-        self.port.now()
-    }
-
-    fn send(&mut self, address: Address, port: u16, reply: &[u8]) -> Result<(), PortFault> {
-        self.port.send(address, port, reply)
-    }
-
-    fn failures(&self) -> u64 {
-        self.port.failures()
+        self.wire.now()
     }
 }
 
-impl<A: Allocator> TimedPort for MemoryQueue<A> {
-    fn receive_in_time(
-        &mut self,
-        datagram: &mut DatagramRoom,
-    ) -> Option<Result<Arrival, PortFault>> {
-        self.take_in_time(datagram)
-    }
-}
-
-impl<A: Allocator> QueuedPort for MemoryQueue<A> {
-    ghost use Rattle.test_support.specs.Memory.{history_in};
-
-    ghost history = { λ queue. history_in queue.log };
-
+impl<A: Allocator> QueuedWire for MemoryQueue<A> {
     fn ticks(&mut self) -> u64 {
-        let now = self.next_reading();
-        if self.read < self.readings.len() {
+        if let Some(next) = self.readings.get(self.read) {
+            self.shown = self.shown.max(*next);
             self.read += 1;
         }
-        self.shown = now;
-        self.log.see(QueueEvent::Read(now));
-        now
+        self.log.see(QueueEvent::Read(self.shown));
+        self.shown
     }
 
     fn most_held(&mut self) -> u64 {
@@ -167,50 +162,26 @@ impl<A: Allocator> QueuedPort for MemoryQueue<A> {
                 count = count.saturating_add(1);
             }
         }
-        self.log.see(QueueEvent::Held {
-            count,
-            at: self.shown,
-        });
+        let at = self.shown;
+        self.log.see(QueueEvent::Held { count, at });
         count
     }
 
     fn is_empty(&mut self) -> bool {
-        if self.has_come_by(self.shown) {
-            self.log.see(QueueEvent::Looked(self.shown));
+        let at = self.shown;
+        if self.has_come_by(at) {
+            self.log.see(QueueEvent::Looked(at));
             return false;
         }
-        self.log.see(QueueEvent::Held {
-            count: 0,
-            at: self.shown,
-        });
+        self.log.see(QueueEvent::Held { count: 0, at });
         true
     }
 
-    fn take_in_time(&mut self, datagram: &mut DatagramRoom) -> Option<Result<Arrival, PortFault>> {
-        if !self.has_come_by(self.next_reading()) {
-            self.log.see(QueueEvent::Held {
-                count: 0,
-                at: self.shown,
-            });
-            self.idle_waits = self.idle_waits.saturating_add(1);
-            return None;
-        }
-        match self.port.receive(datagram) {
-            Ok(arrival) => {
-                self.taken += 1;
-                self.log.see(QueueEvent::Taken(self.shown));
-                Some(Ok(arrival))
-            }
-            Err(fault) => Some(Err(fault)),
-        }
+    fn wait(&mut self) -> bool {
+        false
     }
 
     fn drop_next(&mut self) -> bool {
-        if !self.has_come_by(self.shown) || !self.port.drop_next() {
-            return false;
-        }
-        self.taken += 1;
-        self.log.see(QueueEvent::Taken(self.shown));
-        true
+        self.has_come_by(self.shown) && self.take(&mut [0; MOST_RECEIVED_OCTETS]).is_ok()
     }
 }

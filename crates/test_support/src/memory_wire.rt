@@ -1,15 +1,40 @@
 //! A wire in memory.
 ghost use Rattle.std.specs.Prelude.{◌≡◌, ◌+◌, ◌≤◌, ◌<◌, true, false, not, ◌&&◌, vec_len, vec_capacity, if◌then◌else◌, IfOk, IsTrue, Some, [], map};
 
-use crate::memory_turn::Turn;
 use ntp_host::Wire;
 use ntp_mac::Reply;
 use ntp_packet::{Moment, Stamp};
 use ntp_port::{DatagramRoom, MOST_RECEIVED_OCTETS, Sent};
-use ntp_service::{Address, NoMemory};
+use ntp_service::{Address, NoMemory, Octets};
 use std::alloc::{Allocator, Global};
 use std::io::{self, ErrorKind};
 use std::net::{Ipv4Addr, SocketAddr, SocketAddrV4};
+
+/// A datagram that is to be received.
+#[derive(Debug, Drop)]
+pub struct Incoming<A: Allocator = Global> {
+    /// The address from which it comes.
+    pub address: Address,
+    /// The UDP port from which it comes.
+    pub port: u16,
+    /// When it comes.
+    pub receipt: Moment,
+    /// Its octets; at most 1,025 are received.
+    pub octets: Octets<A>,
+}
+
+/// One turn: a receive, and the calls behind it.
+#[derive(Debug, Drop)]
+pub struct Turn<A: Allocator = Global> {
+    /// The datagram; without one the receive fails.
+    pub arrival: Option<Incoming<A>>,
+    /// What the clock shows at first.
+    pub transmit: Moment,
+    /// What it shows afterwards.
+    pub departure: Moment,
+    /// Whether a reply can be sent.
+    pub sends: bool,
+}
 
 // What the clock shows outside of the turns.
 const UNREAD: Moment = Moment {

@@ -1,7 +1,7 @@
 //! The packets of three turns of a server, and a turn with a datagram of the customer.
 
 use crate::customer_and_clock::{CUSTOMER, moment};
-use crate::memory_turn::{Incoming, Turn};
+use crate::memory_wire::{Incoming, Turn};
 use crate::packets::{PRIMARY, query, reply};
 use ntp_admin::Octets;
 use std::alloc::Allocator;
@@ -34,7 +34,7 @@ const QUERY_DIGESTS: [u128; 3] = [
 const REPLY_DIGESTS: [u128; 4] = [
     0xb26e_5765_47e4_15eb_d846_1f86_4849_12fe,
     0xe86c_f78d_3f39_b6d2_d8c9_46b0_09cc_ab85,
-    0x9271_486f_924b_6d3d_2493_2f2f_4a26_6db6,
+    0x44c8_d7d3_8360_a5dc_219f_6c57_3dcd_d177,
     0x5b64_9aeb_0baa_0030_1212_0d8b_3164_b7ac,
 ];
 
@@ -49,8 +49,8 @@ pub fn queries() -> [[u8; 68]; 3] {
     ]
 }
 
-/// The basic replies to the first and the second; the interleaved reply to the third, which tells when the second reply departed;
-/// and the same where that did not depart: it tells when that was to depart.
+/// The basic replies to the first and the second; the interleaved reply to the third, which carries the middle of the two readings around
+/// the second's send; and the one where that was not sent, which carries when it was to depart.
 pub fn replies() -> [[u8; 68]; 4] {
     let [first, second, third] = RECEIPTS;
     let [asked, again, _] = TRANSMITS;
@@ -58,19 +58,13 @@ pub fn replies() -> [[u8; 68]; 4] {
     [
         reply(PRIMARY, asked, first, first + 0x100, a),
         reply(PRIMARY, again, second, second + 0x100, b),
-        reply(PRIMARY, ARRIVAL, third, second + 0x180, c),
+        reply(PRIMARY, ARRIVAL, third, second + 0x140, c),
         reply(PRIMARY, ARRIVAL, third, second + 0x100, d),
     ]
 }
 
-/// The interleaved reply to the third where the second departed in the middle of the two readings around its send.
-pub fn reply_over_a_wire() -> [u8; 68] {
-    let digest = 0x44c8_d7d3_8360_a5dc_219f_6c57_3dcd_d177;
-    reply(PRIMARY, ARRIVAL, RECEIPTS[2], RECEIPTS[1] + 0x140, digest)
-}
-
-/// A turn in which the customer's octets come from a UDP port at a stamp. The reply is to leave 0x100 units of a stamp behind
-/// it, and leaves 0x180 behind it, if it can be sent.
+/// A turn in which the customer's octets come from a UDP port at a stamp. The clock shows 0x100 units of a stamp more before the reply is
+/// sent, and 0x180 more behind that, if it can be sent.
 pub fn turn<A: Allocator + Copy>(
     alloc: A,
     port: u16,

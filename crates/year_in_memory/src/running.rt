@@ -6,7 +6,7 @@ use crate::files::{ANSWERS, COMMANDS, Disk, LOG, MemoryFile};
 use crate::host::MemoryHost;
 use crate::judging::Expected;
 use crate::script::{Given, Script};
-use crate::wire::{Coming, YearWire};
+use crate::wire::YearWire;
 use labntpd_assembly::{
     Assembly, DaemonClock, DaemonObserver, DaemonPort, Host, Parts, ReportingObserver, ServeFault,
     StartupFacts,
@@ -26,7 +26,7 @@ use std::io::{self, LineWriter, Write};
 use std::net::{Ipv4Addr, SocketAddrV4};
 use std::test::Fail;
 use std::time::Clock;
-use test_support::MemoryWire;
+use test_support::{MemoryQueue, MemoryWire};
 
 /// The configuration of the daemon. What it names of the host beside files is not there.
 const CONFIGURATION: &str = "listen = \"192.0.2.1:123\"\n\
@@ -88,14 +88,9 @@ pub fn run(alloc: Global, disk: &Disk, script: Script, expected: &Expected) -> R
         clocks: &clocks,
         configuration: &configuration,
     };
-    let coming = Coming::new(due, readings);
-    let wire = YearWire::new(
-        MemoryWire::new(alloc, turns)?,
-        coming,
-        host.rt,
-        host.clocks,
-        &lines,
-    );
+    let wire = MemoryWire::new(alloc, turns)?;
+    let queue = MemoryQueue::new(alloc, wire, due, readings, 0)?;
+    let wire = YearWire::new(queue, host.rt, host.clocks, &lines);
     judged(host, wire, reference, expected)
 }
 

@@ -1,6 +1,7 @@
 //! What comes of whole stretches of time, by a queue in memory whose datagrams and readings are written down here: each is
 //! reckoned by hand, in milliseconds.
 
+use ntp_host::UdpPort;
 use ntp_port::{
     FixedReference, FreshPort, MOST_RECEIVED_OCTETS, Port, PortFault, QueueWatch, TimedPort,
 };
@@ -8,7 +9,7 @@ use ntp_server::{NoReports, Server};
 use std::alloc::{AllocError, Global};
 use std::test::Fail;
 use test_support::{
-    CUSTOMER, MemoryCommands, MemoryObserver, MemoryPort, MemoryQueue, RECEIPTS, Turn,
+    CUSTOMER, MemoryCommands, MemoryObserver, MemoryQueue, MemoryWire, RECEIPTS, Turn,
     enrolled_service, queries, reference, replies, turn,
 };
 
@@ -24,6 +25,9 @@ fn nanoseconds(alloc: Global, milliseconds: &[u32]) -> Result<Vec<u64>, AllocErr
     Ok(moments)
 }
 
+// A port over a queue in memory.
+type QueuePort = FreshPort<UdpPort<MemoryQueue>>;
+
 // A port over a queue. The datagrams of `turns` come to it, each after its milliseconds in `due`. The clock beside it shows the
 // milliseconds `readings`.
 fn fresh(
@@ -31,15 +35,15 @@ fn fresh(
     turns: Vec<Turn>,
     due: &[u32],
     readings: &[u32],
-) -> Result<FreshPort<MemoryQueue>, Fail> {
+) -> Result<QueuePort, Fail> {
     let queue = MemoryQueue::new(
         alloc,
-        MemoryPort::new(alloc, turns)?,
+        MemoryWire::new(alloc, turns)?,
         nanoseconds(alloc, due)?,
         nanoseconds(alloc, readings)?,
         1_000,
     )?;
-    Ok(FreshPort::new(queue, QueueWatch::new(LONGEST)))
+    Ok(FreshPort::new(UdpPort::new(queue), QueueWatch::new(LONGEST)))
 }
 
 // Turns with `count` datagrams of 48 octets, each from the UDP port of its place.
@@ -54,12 +58,12 @@ fn datagrams(alloc: Global, count: usize) -> Result<Vec<Turn>, Fail> {
 }
 
 // A port to which such datagrams come, each after its milliseconds in `due`.
-fn port(alloc: Global, due: &[u32], readings: &[u32]) -> Result<FreshPort<MemoryQueue>, Fail> {
+fn port(alloc: Global, due: &[u32], readings: &[u32]) -> Result<QueuePort, Fail> {
     fresh(alloc, datagrams(alloc, due.len())?, due, readings)
 }
 
 // The UDP port of the next datagram that may be answered, where one comes in time.
-fn next(port: &mut FreshPort<MemoryQueue>) -> Result<Option<u16>, PortFault> {
+fn next(port: &mut QueuePort) -> Result<Option<u16>, PortFault> {
     if port.failures() > 0 {
         return Err(PortFault::Receive);
     }
@@ -79,7 +83,7 @@ const STOPPED: [u32; 11] = [
 fn what_waited_while_the_process_was_stopped_is_dropped(rt: HostRuntime) -> Result<(), Fail> {
     // Two takes at 5,100 ms, after a stop of five seconds, and one later. Before the second the nine that are left are counted,
     // and behind it eight are swept out. Behind the first, a sweep finds nothing that was counted.
-    let mut port = port(rt.alloc(), &STOPPED, &[0, 100, 5_100, 5_100, 5_200])?;
+    let mut port = port(rt.alloc(), &STOPPED, &[0, 100, 5_100, 5_100, 5_200, 5_300])?;
     for (expected, stale, sweeps) in [(None, 0, 0), (Some(10), 10, 2), (None, 10, 2)] {
         assert!(rt; next(&mut port) == Ok(expected));
         assert!(rt; port.stale() == stale);
@@ -89,7 +93,7 @@ fn what_waited_while_the_process_was_stopped_is_dropped(rt: HostRuntime) -> Resu
 }
 
 // How many are passed on in `calls` calls, and how many are dropped.
-fn passed_on(port: &mut FreshPort<MemoryQueue>, calls: u32) -> Result<(usize, u64), PortFault> {
+fn passed_on(port: &mut QueuePort, calls: u32) -> Result<(usize, u64), PortFault> {
     let mut passed_on = 0usize;
     for _ in 0..calls {
         if next(port)?.is_some() {
@@ -100,13 +104,14 @@ fn passed_on(port: &mut FreshPort<MemoryQueue>, calls: u32) -> Result<(usize, u6
 }
 
 // A port to which two hundred datagrams come, one each 10 ms; `waiting` of them always wait.
-fn overloaded(alloc: Global, waiting: u32) -> Result<FreshPort<MemoryQueue>, Fail> {
+fn overloaded(alloc: Global, waiting: u32) -> Result<QueuePort, Fail> {
     let mut due = [0; 200];
-    let mut readings = [0; 201];
     for number in 0..200u32 {
-        let place = number as usize;
-        due[place] = 1 + number.saturating_sub(waiting) * 10;
-        readings[place + 1] = 10 + number * 10;
+        due[number as usize] = 1 + number.saturating_sub(waiting) * 10;
+    }
+    let mut readings = [0; 250];
+    for number in 0..250u32 {
+        readings[number as usize] = number * 10;
     }
     port(alloc, &due, &readings)
 }
@@ -127,7 +132,7 @@ fn overload_is_answered_by_what_came_behind_the_stale_ones(rt: HostRuntime) -> R
 }
 
 // A port to which a datagram comes each second, beside a clock that is read each tenth of a second.
-fn sparse(alloc: Global) -> Result<FreshPort<MemoryQueue>, Fail> {
+fn sparse(alloc: Global) -> Result<QueuePort, Fail> {
     let mut due = [0; 20];
     for second in 0..20u32 {
         due[second as usize] = second * 1_000 + 950;
@@ -148,14 +153,14 @@ fn sparse_datagrams_are_answered(rt: HostRuntime) -> Result<(), Fail> {
 
 // A server of the customer over such a port.
 type FreshServer = Server<
-    FreshPort<MemoryQueue>,
+    QueuePort,
     MemoryCommands<Global>,
     FixedReference,
     MemoryObserver<Global>,
     Global,
 >;
 
-fn server_at(alloc: Global, port: FreshPort<MemoryQueue>) -> Result<FreshServer, Fail> {
+fn server_at(alloc: Global, port: QueuePort) -> Result<FreshServer, Fail> {
     Ok(Server {
         port,
         commands: MemoryCommands::new(Vec::new(alloc)),
@@ -177,7 +182,7 @@ fn one_turn(server: &mut FreshServer) -> Result<u64, PortFault> {
 
 // Whether it has sent this reply to a UDP port of the customer, and nothing else.
 fn has_sent_only(server: &FreshServer, port: u16, reply: &[u8; 68]) -> bool {
-    match server.port.port().sent() {
+    match server.port.port().wire.sent() {
         [sent] => sent.address == CUSTOMER
             && sent.port == port
             && sent.reply.octets() == reply.as_slice(),

@@ -3,7 +3,7 @@
 //! `load_register` take the global allocator alone, so nothing can be refused them here; `tests/refused_memory` does that.
 
 use crate::servers::refused_calls::{
-    answer_refused, event_refused, port_refused, replay_refused, run_refused, slots_refused,
+    answer_refused, event_refused, replay_refused, run_refused, slots_refused, wire_refused,
 };
 use crate::servers::refused_enrolments::{again_refused, first_refused, line_refused};
 use crate::servers::refused_rollovers::rollover_refused;
@@ -23,7 +23,7 @@ pub(crate) enum Call {
     Slots,
     Event,
     Answer,
-    Port,
+    Wire,
     Run,
     Replay,
     /// Enrolments of a commands file.
@@ -62,7 +62,7 @@ const CALLS: [(Call, &[Refused]); 13] = [
     (Call::Slots, &[Refused::Call]),
     (Call::Event, &[Refused::Call]),
     (Call::Answer, &[Refused::Call]),
-    (Call::Port, &[Refused::Call]),
+    (Call::Wire, &[Refused::Call]),
     (Call::Run, &[Refused::Call, Refused::Command]),
     (
         Call::Replay,
@@ -98,7 +98,7 @@ fn refused_in(rt: &impl Abort, alloc: Global, call: Call, n: u64) -> Result<Refu
         Call::Slots => Ok(slots_refused(rt, alloc, n)),
         Call::Event => event_refused(rt, alloc, n),
         Call::Answer => answer_refused(rt, alloc, n),
-        Call::Port => port_refused(rt, alloc, n),
+        Call::Wire => wire_refused(rt, alloc, n),
         Call::Run => run_refused(rt, alloc, n),
         Call::Replay => Ok(replay_refused(rt, alloc, n)),
         Call::Lines => line_refused(rt, alloc, n),

@@ -11,7 +11,7 @@ use std::alloc::{Allocator, Global};
 use std::process::Abort;
 use std::test::Fail;
 use test_support::{
-    ANSWERS, CUSTOMER, MemoryPort, Refusing, SCRIPT, Turn, events, moment, printed, run,
+    ANSWERS, CUSTOMER, MemoryWire, Refusing, SCRIPT, Turn, events, moment, printed, run,
 };
 
 // What was refused a call that tells it by `NoMemory`, and else is right.
@@ -76,8 +76,8 @@ pub(crate) fn answer_refused(rt: &impl Abort, alloc: Global, n: u64) -> Result<R
     Ok(call_refused(rt, &memory, end))
 }
 
-/// A port of one turn has sent nothing yet.
-pub(crate) fn port_refused(rt: &impl Abort, alloc: Global, n: u64) -> Result<Refused, Fail> {
+/// A wire of one turn has sent nothing yet.
+pub(crate) fn wire_refused(rt: &impl Abort, alloc: Global, n: u64) -> Result<Refused, Fail> {
     let memory = Refusing::new(alloc);
     let mut turns = Vec::new(&memory);
     turns.push(Turn {
@@ -87,8 +87,8 @@ pub(crate) fn port_refused(rt: &impl Abort, alloc: Global, n: u64) -> Result<Ref
         sends: true,
     })?;
     memory.refuse_nth(n);
-    let end = match MemoryPort::new(&memory, turns) {
-        Ok(port) => Ok(port.sent().is_empty()),
+    let end = match MemoryWire::new(&memory, turns) {
+        Ok(wire) => Ok(wire.sent().is_empty()),
         Err(NoMemory) => Err(NoMemory),
     };
     Ok(call_refused(rt, &memory, end))

@@ -10,8 +10,8 @@ use std::alloc::{Allocator, Global};
 use std::process::Abort;
 use std::test::Fail;
 use test_support::{
-    CUSTOMER, MemoryPort, MemoryWire, RECEIPTS, Refusing, Turn, enrolled_service, moment, queries,
-    reference, replies, reply_over_a_wire, turn,
+    CUSTOMER, MemoryWire, RECEIPTS, Refusing, Turn, enrolled_service, moment, queries, reference,
+    replies, turn,
 };
 
 // The UDP ports of three turns.
@@ -27,8 +27,11 @@ fn others() -> [(u16, [(u16, [u8; 68]); 2]); 3] {
     ]
 }
 
-// Three turns. The send to this UDP port fails.
-fn three_turns<A: Allocator + Copy>(alloc: A, failing: u16) -> Result<Vec<Turn<A>, A>, Fail> {
+// A port with three turns. The send to this UDP port fails.
+fn port_of_three<A: Allocator + Copy>(
+    alloc: A,
+    failing: u16,
+) -> Result<UdpPort<MemoryWire<A>>, Fail> {
     let mut turns = Vec::new(alloc);
     let queries = queries();
     for place in 0..3usize {
@@ -42,7 +45,7 @@ fn three_turns<A: Allocator + Copy>(alloc: A, failing: u16) -> Result<Vec<Turn<A
         )?;
         turns.push(turn)?;
     }
-    Ok(turns)
+    Ok(UdpPort::new(MemoryWire::new(alloc, turns)?))
 }
 
 // A turn with no datagram.
@@ -88,13 +91,13 @@ fn are_both_sent(sent: &[Sent], both: &[(u16, [u8; 68]); 2]) -> bool {
 }
 
 // A port with a turn that has a datagram, between two that have none.
-fn one_of_three(alloc: Global) -> Result<MemoryPort, Fail> {
+fn one_of_three(alloc: Global) -> Result<UdpPort<MemoryWire>, Fail> {
     let mut turns = Vec::new(alloc);
     let [query, ..] = queries();
     turns.push(empty_turn())?;
     turns.push(turn(alloc, 5001, RECEIPTS[0], &query, true)?)?;
     turns.push(empty_turn())?;
-    Ok(MemoryPort::new(alloc, turns)?)
+    Ok(UdpPort::new(MemoryWire::new(alloc, turns)?))
 }
 
 #[test]
@@ -105,28 +108,20 @@ fn a_turn_without_a_datagram_is_no_event(rt: HostRuntime) -> Result<(), Fail> {
     let counts = served(&rt, &mut port, &mut service, &reference, 4);
     assert!(rt; counts == [1, 1, 1] && port.failures() == 3);
     let [reply, ..] = replies();
-    assert!(rt; are_sent(port.sent(), &[(5001, reply)]));
+    assert!(rt; are_sent(port.wire.sent(), &[(5001, reply)]));
     Ok(())
 }
 
 #[test]
-fn a_port_over_a_wire_tells_the_middle_of_two_readings_as_a_departure(
-    rt: HostRuntime,
-) -> Result<(), Fail> {
+fn a_departure_is_the_middle_of_two_readings(rt: HostRuntime) -> Result<(), Fail> {
     let reference = reference()?;
-    let wire = MemoryWire::new(rt.alloc(), three_turns(rt.alloc(), 0)?)?;
-    let mut port = UdpPort::new(wire);
+    let mut port = port_of_three(rt.alloc(), 0)?;
     let mut service = enrolled_service(rt.alloc())?;
     let counts = served(&rt, &mut port, &mut service, &reference, 4);
     assert!(rt; counts == [3, 3, 3] && port.failures() == 1);
-    let [first, second, ..] = replies();
-    let third = reply_over_a_wire();
-    assert!(rt;
-        are_sent(
-            port.wire.sent(),
-            &[(5001, first), (5002, second), (5003, third)]
-        )
-    );
+    let [first, second, third, _] = replies();
+    let expected = [(5001, first), (5002, second), (5003, third)];
+    assert!(rt; are_sent(port.wire.sent(), &expected));
     Ok(())
 }
 
@@ -134,11 +129,14 @@ fn a_port_over_a_wire_tells_the_middle_of_two_readings_as_a_departure(
 fn each_send_fails_in_turn(rt: HostRuntime) -> Result<(), Fail> {
     let reference = reference()?;
     for (failing, expected) in others() {
-        let mut port = MemoryPort::new(rt.alloc(), three_turns(rt.alloc(), failing)?)?;
+        let mut port = port_of_three(rt.alloc(), failing)?;
         let mut service = enrolled_service(rt.alloc())?;
         let counts = served(&rt, &mut port, &mut service, &reference, 3);
         assert!(rt; counts == [3, 2, 2] && port.failures() == 1);
-        assert!(rt; are_both_sent(port.sent(), &expected), "without {failing}");
+        assert!(rt;
+            are_both_sent(port.wire.sent(), &expected),
+            "without {failing}"
+        );
     }
     Ok(())
 }
@@ -148,7 +146,7 @@ fn serving_takes_no_memory(rt: HostRuntime) -> Result<(), Fail> {
     let reference = reference()?;
     let memory = Refusing::new(rt.alloc());
     let mut service = enrolled_service(&memory)?;
-    let mut port = MemoryPort::new(&memory, three_turns(&memory, 5002)?)?;
+    let mut port = port_of_three(&memory, 5002)?;
     let before = memory.calls();
     memory.refuse_all();
     let counts = served(&rt, &mut port, &mut service, &reference, 4);

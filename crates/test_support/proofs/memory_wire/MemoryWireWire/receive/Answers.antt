@@ -2,8 +2,7 @@ use Rattle.std.proofs.Common.{rules, ap, ◌∙◌, refl, take, None, Some}
 use Rattle.std.specs.declared.net.ipv4_addr.Ipv4Addr.{Ipv4Addr}
 use Rattle.ntp_host.specs.Wire.{is_idle}
 use Rattle.test_support.specs.Wires.{told_by_wire}
-use Rattle.test_support.proofs.Receiving.{cut}
-use Rattle.test_support.proofs.WireTurns.{wire-begins}
+use Rattle.test_support.proofs.WireTurns.{wire-begins, cut}
 use Rattle.test_support.proofs.memory_wire.MemoryWireWire.receive.Goals as goal
 
 pub returns-in_default-clause-turns : goal.returns-in_default-clause-turns

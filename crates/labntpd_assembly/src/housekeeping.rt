@@ -220,7 +220,7 @@ impl<'a, R: Files + Clock, L: Write + Drop> Housekeeping<'a, R, L> {
         self.news.see_stale(server.port.stale());
         let is_receiving = self.is_receiving();
         self.news.see_receiving(is_receiving);
-        self.see_files(server.commands.inner(), &server.observer);
+        self.see_files(&server.commands.source, &server.observer);
         self.written.drops.look(rt);
         if seconds >= self.times.statistics {
             let notice = if self.times.statistics == 0 {
@@ -279,8 +279,8 @@ impl<'a, R: Files + Clock, L: Write + Drop> Housekeeping<'a, R, L> {
         }
     }
 
-    // Keeps how long the datagram of a turn can have waited, where that is known and longer than what is kept: it came after the moment that
-    // was known at the last turn, unless others were dropped before it. The next one can have `waited` by now.
+    // Keeps how long the datagram of a turn can have waited, where that is known and longer than what is kept: it came after the
+    // moment that was known at the last turn, unless others were dropped before it. The next one can have `waited` by now.
     fn see_wait(&mut self, stale: u64, waited: Option<u64>, receipt: Option<Moment>) {
         let now = self.host.clocks.ticks.get();
         if receipt.is_some()
@@ -300,7 +300,7 @@ impl<'a, R: Files + Clock, L: Write + Drop> Housekeeping<'a, R, L> {
         S: DaemonClock,
         O: DaemonObserver,
     {
-        let (commands, dropped) = (server.commands.inner(), self.news.log.dropped);
+        let (commands, dropped) = (&server.commands.source, self.news.log.dropped);
         let gauges = Gauges {
             stale: server.port.stale(),
             kernel_drops: self.written.drops.drops,

@@ -1,21 +1,9 @@
 -- Wanted customers read one after another, in file order.
-use Rattle.std.proofs.Common.{◌≡◌, ℕ, ◌+◌, ◌<◌, List, [], ◌∷◌, ◌++◌, length, drop, get_or, Some, Result, Ok, Err, refl, sym, ap, append_assoc, add-one}
+use Rattle.std.proofs.Common.{◌≡◌, ℕ, ◌+◌, ◌<◌, List, [], ◌∷◌, ◌++◌, length, drop, get_or, Some, Ok, add-one}
 use Rattle.toml.specs.{Data.Members, Data.as_table, View.view, View.items_view, declared.value.Value.Value}
 use Rattle.toml.proofs.Views.{items_view-drop}
-use Rattle.ntp_packet.specs.FirstCase.{◌>>=◌}
-use Rattle.labntpd_files.specs.Settings.{Fault}
+use Rattle.ntp_admin.proofs.PublicLaws.{behind, moved}
 use Rattle.labntpd_files.specs.{declared.wanted.WantedCustomer.WantedCustomer, Wanted.customer_in, Wanted.customers_from}
-
--- the customers that are left, behind those that were read
-abbrev pub behind : List WantedCustomer → Result (List WantedCustomer) Fault → Result (List WantedCustomer) Fault
-behind done (Ok rest) = Ok (done ++ rest)
-behind done (Err why) = Err why
-
--- one more customer was read
-moved : (done : List WantedCustomer) (c : WantedCustomer) (left : Result (List WantedCustomer) Fault)
-    → behind done (left >>= (λ rest. Ok (c ∷ rest))) ≡ behind (done ++ c ∷ []) left
-moved done c (Ok rest) = ap Ok (sym (append_assoc done (c ∷ []) rest))
-moved done c (Err why) = refl
 
 pub behind-next : (done : List WantedCustomer) (place : ℕ) (vs : List Value) (v : Value) (table : Members) (c : WantedCustomer)
     → place < length vs → as_table (view (get_or vs place v)) ≡ Some table → customer_in table ≡ Ok c

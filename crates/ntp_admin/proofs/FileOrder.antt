@@ -1,4 +1,4 @@
--- Customers read one after another, in file order.
+-- What is read one after another, in file order; customers of a register.
 use Rattle.std.proofs.Common.{◌≡◌, ℕ, ◌+◌, ◌<◌, List, [], ◌∷◌, ◌++◌, length, drop, get_or, Result, Ok, Err, refl, sym, ap, append_assoc, arith}
 use Rattle.toml.specs.{View.view, View.items_view, declared.value.Value.Value}
 use Rattle.toml.proofs.Views.{items_view-drop}
@@ -6,16 +6,16 @@ use Rattle.ntp_service.specs.declared.command.Command.{Command}
 use Rattle.ntp_admin.specs.{declared.fault.RegisterFault.RegisterFault, RegisterFile.customer_in, RegisterFile.customers_in}
 use Rattle.ntp_packet.specs.FirstCase.{◌>>=◌}
 
--- the commands of the customers that are left, behind those that were read
-abbrev pub behind : List Command → Result (List Command) RegisterFault → Result (List Command) RegisterFault
+-- those that are left, behind those that were read
+abbrev pub behind : {X E : Type 0} → List X → Result (List X) E → Result (List X) E
 behind done (Ok rest) = Ok (done ++ rest)
 behind done (Err why) = Err why
 
--- one more command was read
-moved : (done : List Command) (c : Command) (left : Result (List Command) RegisterFault)
-    → behind done (left >>= (λ rest. Ok (c ∷ rest))) ≡ behind (done ++ c ∷ []) left
-moved done c (Ok rest) = ap Ok (sym (append_assoc done (c ∷ []) rest))
-moved done c (Err why) = refl
+-- one more was read
+pub moved : {X E : Type 0} (done : List X) (x : X) (left : Result (List X) E)
+    → behind done (left >>= (λ rest. Ok (x ∷ rest))) ≡ behind (done ++ x ∷ []) left
+moved done x (Ok rest) = ap Ok (sym (append_assoc done (x ∷ []) rest))
+moved done x (Err why) = refl
 
 -- the next customer gives a command
 pub behind-next : (done : List Command) (place : ℕ) (vs : List Value) (v : Value) (c : Command)

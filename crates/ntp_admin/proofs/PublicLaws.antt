@@ -6,3 +6,5 @@ pub use Rattle.ntp_admin.proofs.Cuts.{parts-split}
 pub use Rattle.ntp_admin.proofs.LinesCut.{complete_lines-split}
 -- what `NonZero::new` gives is a number that is not 0
 pub use Rattle.ntp_admin.proofs.Numbers.{new-non_zero}
+-- what is read one after another stands behind what was read
+pub use Rattle.ntp_admin.proofs.FileOrder.{behind, moved}

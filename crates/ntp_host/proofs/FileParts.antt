@@ -60,20 +60,26 @@ told_so None A B C a b f = tt
 told_so (Some file) A B C a b f = f file a b
 
 -- the octets that were read, as a value
-pub stands_so : (told : Option (List ℕ)) (at from : ℕ) (octets room : List ℕ) → at ≡ from → octets ≡ room → IfSome told (λ file. StandsAt file at room)
-    → IfSome told (λ file. StandsAt file from octets)
-stands_so told at from octets room where_ same stands = rw (same, ← where_) stands
+pub stands_so : (told : Option (List ℕ)) (at from len : ℕ) (octets room rest : List ℕ) → at ≡ from → octets ≡ take len (room ++ rest)
+    → length room ≡ len → IfSome told (λ file. StandsAt file at room) → (octets ≡ room) × IfSome told (λ file. StandsAt file from octets)
+stands_so told at from len octets room rest where_ value long stands =
+    let same = value ∙ filled room rest len long in
+    (same, rw (same, ← where_) stands)
 
 -- each line in reach is given, where the piece is the next one
-pub each_told : (told : Option (List ℕ)) (p q : Progress) (octets : List ℕ) (end count : ℕ) → length octets ≡ count → (count ≡ 0 → end ≤ p.searched)
-    → (0 < count → count ≡ min (end - next_from p) 65536) → IfSome told (λ file. HasNoEnd file p.given p.searched)
-    → IfSome told (λ file. StandsAt file (next_from p) octets)
+pub each_told : (told : Option (List ℕ)) (p q : Progress) (at len end count : ℕ) (octets room rest : List ℕ) → at ≡ next_from p
+    → octets ≡ take len (room ++ rest) → (length room ≡ len) × (length room ≡ count) → IfSome told (λ file. StandsAt file at room)
+    → (count ≡ 0 → end ≤ p.searched) → (0 < count → count ≡ min (end - next_from p) 65536)
+    → IfSome told (λ file. HasNoEnd file p.given p.searched)
     → ((file : List ℕ) (end : ℕ) → HasNoEnd file p.given p.searched → StandsAt file (next_from p) octets → 0 < length octets
     → length octets ≡ min (end - next_from p) 65536 → GivesEach file end p q)
     → IfSome told (λ file. p.searched < end → GivesEach file end p q)
-each_told told p q octets end count long none reach knows stands each = told_so told _ _ _ knows stands (λ file known there more.
+each_told told p q at len end count octets room rest where_ value long stands none reach knows each =
+    let read = stands_so told at (next_from p) len octets room rest where_ value long.0 stands in
+    told_so told _ _ _ knows read.1 (λ file known there more.
     let some : 0 < count = elim (cases_lt 0 count) [ inl some ↦ some | inr zero ↦ absurd (omega (arith, none (omega arith))) ] in
-    each file end known there (omega arith) (long ∙ reach some))
+    let count_read : length octets ≡ count = ap length read.0 ∙ long.1 in
+    each file end known there (omega arith) (count_read ∙ reach some))
 
 -- a line that has no room in a piece is cut
 pub cut_of : (file room items : List ℕ) (from to : ℕ) → StandsAt file from room → length room ≡ 4097 → items ≡ room ++ 10 ∷ [] → from + 65536 < to

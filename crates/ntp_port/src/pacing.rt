@@ -13,7 +13,8 @@ const MILLISECOND: u64 = 4_294_967;
 /// datagram waits, and where the clock was set back. In between a look costs and gives nothing.
 #[derive(Drop)]
 pub struct EachMillisecond<C> {
-    source: C,
+    /// The source.
+    pub source: C,
     // The last receipt with which the source was asked.
     asked: Option<Stamp>,
 }
@@ -28,13 +29,6 @@ impl<C> EachMillisecond<C> {
             source,
             asked: None,
         }
-    }
-
-    /// The source.
-    pub fn inner(&self) -> &C
-        ensures { result.now ≡ self.now.source }
-    {
-        &self.source
     }
 }
 

@@ -61,7 +61,7 @@ pub fn show_paced(rt: &HostRuntime) -> io::Result<()> {
             _ => println!(rt; "not asked")?,
         }
     }
-    println!(rt; "asked {} times", source.inner().0)
+    println!(rt; "asked {} times", source.source.0)
 }
 
 /// Prints by how many calls looks at a commands file find nothing, or how many octets they give.

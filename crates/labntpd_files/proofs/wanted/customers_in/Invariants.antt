@@ -1,7 +1,7 @@
 use Rattle.std.proofs.Common.{◌≡◌, drop}
 use Rattle.toml.specs.View.{items_view}
 use Rattle.labntpd_files.specs.Wanted.{customers_from}
-use Rattle.labntpd_files.proofs.WantedOrder.{behind}
+use Rattle.ntp_admin.proofs.PublicLaws.{behind}
 use Rattle.labntpd_files.proofs.wanted.customers_in.Given as goal
 
 abbrev pub invariant-loop-value : goal.invariant-loop-value

@@ -7,8 +7,8 @@ use Rattle.ntp_host.proofs.commands_file.CommandsFile.lines.Goals as goal
 pub invariant_of-self-then-given-gt-MOST_PIECE_OCTETS : goal.invariant_of-self-then-given-gt-MOST_PIECE_OCTETS
 invariant_of-self-then-given-gt-MOST_PIECE_OCTETS g c =
     let told = g.F.AppendedFile.octets c.args.self.now.file in
-    let read = c.deref.ensures.value ∙ filled _ _ _ (omega (arith, c.read_behind.auto.room, c.deref_mut.ensures.len)) in
-    let stands = stands_so told _ _ _ _ c.next_from.ensures read c.in_ok-read_behind.ensures.read in
+    let stands = (stands_so told _ _ _ _ _ _ c.next_from.ensures c.deref.ensures.value
+    (omega (arith, c.read_behind.auto.room, c.deref_mut.ensures.len)) c.in_ok-read_behind.ensures.read).1 in
     let q = c.behind-next.result in
     record {
       knows = subst (λ o. IfSome o (λ file. HasNoEnd file q.given q.searched))
@@ -19,8 +19,8 @@ invariant_of-self-then-given-gt-MOST_PIECE_OCTETS g c =
 pub returns-then-given-gt-MOST_PIECE_OCTETS-clause-given : goal.returns-then-given-gt-MOST_PIECE_OCTETS-clause-given
 returns-then-given-gt-MOST_PIECE_OCTETS-clause-given g c =
     let told = g.F.AppendedFile.octets c.args.self.now.file in
-    let read = c.deref.ensures.value ∙ filled _ _ _ (omega (arith, c.read_behind.auto.room, c.deref_mut.ensures.len)) in
-    let stands = stands_so told _ _ _ _ c.next_from.ensures read c.in_ok-read_behind.ensures.read in
+    let stands = (stands_so told _ _ _ _ _ _ c.next_from.ensures c.deref.ensures.value
+    (omega (arith, c.read_behind.auto.room, c.deref_mut.ensures.len)) c.in_ok-read_behind.ensures.read).1 in
     let more : c.args.self.now.progress.given + 65536 < c.behind-next.result.given = omega (arith, c.if-given-gt-MOST_PIECE_OCTETS.true) in
     let line = told_so told _ _ _ c.args.self.now.knows stands (c.behind-next.ensures.long more) in
     let again = subst (λ o. IfSome o (λ file. StandsAt file c.args.self.now.progress.given c.read_behind-then-given-gt-MOST_PIECE_OCTETS.new.room))
@@ -37,8 +37,8 @@ returns-then-given-gt-MOST_PIECE_OCTETS-clause-given g c =
 pub returns-clause-given : goal.returns-clause-given
 returns-clause-given g c =
     let told = g.F.AppendedFile.octets c.args.self.now.file in
-    let read = c.deref.ensures.value ∙ filled _ _ _ (omega (arith, c.read_behind.auto.room, c.deref_mut.ensures.len)) in
-    let stands = stands_so told _ _ _ _ c.next_from.ensures read c.in_ok-read_behind.ensures.read in
+    let stands = (stands_so told _ _ _ _ _ _ c.next_from.ensures c.deref.ensures.value
+    (omega (arith, c.read_behind.auto.room, c.deref_mut.ensures.len)) c.in_ok-read_behind.ensures.read).1 in
     let p = c.args.self.now.progress in
     let q = c.behind-next.result in
     let cut = c.truncate.ensures.items ∙ ap (take (q.given - p.given)) (sym c.deref.ensures.value) in
@@ -47,20 +47,12 @@ returns-clause-given g c =
 
 pub returns-then-given-gt-MOST_PIECE_OCTETS-clause-each : goal.returns-then-given-gt-MOST_PIECE_OCTETS-clause-each
 returns-then-given-gt-MOST_PIECE_OCTETS-clause-each g c =
-    let told = g.F.AppendedFile.octets c.args.self.now.file in
-    let read = c.deref.ensures.value ∙ filled _ _ _ (omega (arith, c.read_behind.auto.room, c.deref_mut.ensures.len)) in
-    let stands = stands_so told _ _ _ _ c.next_from.ensures read c.in_ok-read_behind.ensures.read in
-    let long : length c.deref.result.now ≡ c.next_count-count.result =
-    omega (arith, ap length read, c.read_behind.auto.room, c.deref_mut.ensures.len, c.in_ok-octets.ensures.len) in
-    each_told told c.args.self.now.progress c.behind-next.result _ _ _ long c.next_count-count.ensures.none.0 c.next_count-count.ensures.reach
-    c.args.self.now.knows stands c.behind-next.ensures.each
+    each_told _ c.args.self.now.progress c.behind-next.result _ _ _ _ _ _ _ c.next_from.ensures c.deref.ensures.value
+    (omega (arith, c.read_behind.auto.room, c.deref_mut.ensures.len), omega (arith, c.read_behind.auto.room, c.in_ok-octets.ensures.len, c.deref_mut.ensures.len))
+    c.in_ok-read_behind.ensures.read c.next_count-count.ensures.none.0 c.next_count-count.ensures.reach c.args.self.now.knows c.behind-next.ensures.each
 
 pub returns-clause-each : goal.returns-clause-each
 returns-clause-each g c =
-    let told = g.F.AppendedFile.octets c.args.self.now.file in
-    let read = c.deref.ensures.value ∙ filled _ _ _ (omega (arith, c.read_behind.auto.room, c.deref_mut.ensures.len)) in
-    let stands = stands_so told _ _ _ _ c.next_from.ensures read c.in_ok-read_behind.ensures.read in
-    let long : length c.deref.result.now ≡ c.next_count-count.result =
-    omega (arith, ap length read, c.read_behind.auto.room, c.deref_mut.ensures.len, c.in_ok-octets.ensures.len) in
-    each_told told c.args.self.now.progress c.behind-next.result _ _ _ long c.next_count-count.ensures.none.0 c.next_count-count.ensures.reach
-    c.args.self.now.knows stands c.behind-next.ensures.each
+    each_told _ c.args.self.now.progress c.behind-next.result _ _ _ _ _ _ _ c.next_from.ensures c.deref.ensures.value
+    (omega (arith, c.read_behind.auto.room, c.deref_mut.ensures.len), omega (arith, c.read_behind.auto.room, c.in_ok-octets.ensures.len, c.deref_mut.ensures.len))
+    c.in_ok-read_behind.ensures.read c.next_count-count.ensures.none.0 c.next_count-count.ensures.reach c.args.self.now.knows c.behind-next.ensures.each

@@ -1,7 +1,7 @@
 //! Changes the customers into those of a file, writes such a file, and writes the commands file anew in fewer lines.
 
 use crate::appending::{Addition, Manner};
-use crate::changing::refused;
+use crate::changing::unled;
 use crate::commands_file::{HeldFile, Loaded, put_in_place, store_name, write_new};
 use crate::customers::judge_daemon;
 use crate::desk::{Clerk, Desk, FoundAt, Stop};
@@ -141,15 +141,6 @@ fn wanted_at(desk: Desk<'_>, path: &str) -> Result<Vec<WantedCustomer>, Stop> {
             }
             Err(Stop::Printed(Status::TextFaulty))
         }
-    }
-}
-
-/// Reports why no commands were found.
-pub fn unled(desk: Desk<'_>, fault: LeadFault) -> Stop {
-    match fault {
-        LeadFault::NoMemory => Stop::Memory,
-        LeadFault::Refused(refusal) => refused(desk, refusal, Seen::Nothing),
-        _ => desk.refusal("no commands lead to these customers: nothing was changed"),
     }
 }
 

@@ -1,7 +1,6 @@
 //! Changes one customer, and writes the file for one who gets a key.
 
 use crate::appending::{Addition, Manner};
-use crate::applying::unled;
 use crate::commands_file::{HeldFile, Loaded, write_new};
 use crate::customers::{customer_lines, judge_daemon};
 use crate::desk::{Clerk, Desk, Named, SIGNED_FORM, Stop, date, signed_date, whole_seconds};
@@ -9,9 +8,9 @@ use labntpd_files::refusal_meaning;
 use labntpd_start::SeveralAddresses;
 use ntp_admin::{Command, Escaped, words};
 use ntp_clerk::{
-    Dotted, GivenKey, Grant, Keys, Seen, commands_to_move, customer_text, is_read_two_ways,
-    key_named, may_retire, name_line, number_for_a_key, number_to_retire, rollover, seen_at,
-    terms_of,
+    Dotted, GivenKey, Grant, Keys, LeadFault, Seen, commands_to_move, customer_text,
+    is_read_two_ways, key_named, may_retire, name_line, number_for_a_key, number_to_retire,
+    rollover, seen_at, terms_of,
 };
 use ntp_mac::{Algorithm, Key};
 use ntp_query::{KeyFileFault, KeyLineFault, Server, key_in_text, spaced};
@@ -295,8 +294,17 @@ fn start_of_counts(clerk: &Clerk<'_>) -> Result<Option<u64>, Stop> {
     Ok(begun.and_then(|seconds| whole_seconds(seconds)))
 }
 
-/// Reports why a command is refused for an address that has this.
-pub fn refused(desk: Desk<'_>, refusal: Refusal, there: Seen) -> Stop {
+/// Reports why no commands were found.
+pub fn unled(desk: Desk<'_>, fault: LeadFault) -> Stop {
+    match fault {
+        LeadFault::NoMemory => Stop::Memory,
+        LeadFault::Refused(refusal) => refused(desk, refusal, Seen::Nothing),
+        _ => desk.refusal("no commands lead to these customers: nothing was changed"),
+    }
+}
+
+// Reports why a command is refused for an address that has this.
+fn refused(desk: Desk<'_>, refusal: Refusal, there: Seen) -> Stop {
     let (word, meaning) = (refusal.word(), refusal_meaning(refusal));
     match (refusal, there) {
         (Refusal::NoMemory, _) => Stop::Memory,

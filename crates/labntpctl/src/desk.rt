@@ -8,7 +8,7 @@ use ntp_admin::{Escaped, Status, failed_status, memory_status, write_status};
 use ntp_clerk::{Dotted, may_be_renewed};
 use ntp_host::{pause, read_regular_file, read_shared_file};
 use ntp_mac::{Algorithm, Key};
-use ntp_query::Server;
+use ntp_query::{NTP_PORT, Server};
 use ntp_service::Address;
 use std::alloc::{AllocError, AllocFailed, Global};
 use std::fmt::{self, Display};
@@ -265,7 +265,7 @@ impl<'a> Clerk<'a> {
     pub fn port(&self) -> u16 {
         match self.configuration.listen {
             Listen::Bound(endpoint) => endpoint.port.get(),
-            Listen::Inherited => 123,
+            Listen::Inherited => NTP_PORT,
         }
     }
 

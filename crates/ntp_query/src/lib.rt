@@ -20,4 +20,4 @@ pub use key_file::{KeyFileFault, KeyLineFault, key_in_text, spaced};
 pub use outcome::{Outcome, Unreached, hear, least_delay};
 pub use outcome_text::Least;
 pub use reference::Reference;
-pub use server::{Server, host_in, server_in};
+pub use server::{NTP_PORT, Server, host_in, server_in};

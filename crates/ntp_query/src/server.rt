@@ -8,7 +8,7 @@ use ntp_service::Address;
 use std::num::NonZero;
 
 /// The UDP port of NTP (RFC 5905, 16).
-const NTP_PORT: u16 = 123;
+pub const NTP_PORT: u16 = 123;
 
 /// The server that is asked.
 #[derive(Clone, Copy)]

@@ -1,7 +1,6 @@
 -- How many calls of a port fail while a datagram is answered.
 use Rattle.std.proofs.Common.{◌≡◌, ℕ, ◌+◌, ◌≤◌, Option, Result, List, arith}
-use Rattle.std.specs.Prelude.{option_map, is_err}
-use Rattle.std.specs.Result.{result_ok}
+use Rattle.std.specs.{Prelude.option_map, Prelude.is_err, Result.result_ok}
 use Rattle.ntp_reply.specs.Reference.{ReferenceState}
 use Rattle.ntp_service.specs.{Registry.Registry, declared.observation.Arrival.Arrival}
 use Rattle.ntp_service.specs.declared.observation.TurnOutcome.{TurnOutcome}

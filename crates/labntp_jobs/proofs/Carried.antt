@@ -5,14 +5,12 @@ use Rattle.ntp_packet.specs.{declared.stamp.Stamp.Stamp, declared.moment.Moment.
 use Rattle.ntp_packet.specs.Header.{HeaderFields, IsHeader}
 use Rattle.ntp_mac.specs.Reading.{reading_of}
 use Rattle.ntp_customer.specs.{declared.slot.Slot.Slot, Exchanges.new_exchange, Exchanges.unused_at, Past.Past}
-use Rattle.ntp_client.specs.{declared.exchange.Exchange.Exchange, declared.exchange.Outstanding.Outstanding}
-use Rattle.ntp_client.specs.{declared.sample.Sample.Sample, State.ClientState, Query.query_fields, Pairing.exchange_of}
-use Rattle.ntp_client.specs.Taking.{header_taken, after_taken}
+use Rattle.ntp_client.specs.declared.{exchange.Exchange.Exchange, exchange.Outstanding.Outstanding, sample.Sample.Sample}
+use Rattle.ntp_client.specs.{State.ClientState, Query.query_fields, Pairing.exchange_of, Taking.header_taken, Taking.after_taken}
 use Rattle.ntp_client.specs.declared.taken.Taken.TheVariants as taken
 use Rattle.ntp_reply.specs.{Replies.time_fields, declared.occasion.Occasion.Occasion, Life.recent_of, Life.recent_in, Kind.Signed}
-use Rattle.ntp_reply.specs.Exchanged.{matched, stamps_of}
-use Rattle.ntp_reply.specs.Verdict.{kind_answer, after_kind, verdict, after_datagram, window_at}
-use Rattle.ntp_reply.specs.declared.answers.SignedReply.{SignedReply}
+use Rattle.ntp_reply.specs.{Exchanged.matched, Exchanged.stamps_of, Verdict.kind_answer, Verdict.after_kind, Verdict.verdict}
+use Rattle.ntp_reply.specs.{Verdict.after_datagram, Verdict.window_at, declared.answers.SignedReply.SignedReply}
 use Rattle.ntp_reply.specs.declared.answers.Answer.TheVariants as answer
 use Rattle.labntp_jobs.specs.Meeting.{WaitsForReply, SharesKey, FitsPacket, request_octets}
 use Rattle.labntp_jobs.proofs.{Readings.sealed_packet, Readings.read-sealed, Stamps.receive-fits, Stamps.transmit-fits}

@@ -2,11 +2,10 @@
 use Rattle.std.proofs.Common.{◌≡◌, ◌≢◌, ℕ, ◌+◌, ◌<◌, List, [], ◌∷◌, ◌++◌, length, take, drop, get_or, refl, sym, ap, ◌∙◌, subst, append_assoc, add-zero, length-append, take-append-drop, arith}
 use Rattle.std.proofs.lemmas.List.{take_more}
 use Rattle.std.proofs.lemmas.List.Elements.{All-nil, All-cons, All-append}
-use Rattle.labntp_jobs.specs.{declared.engine.Engine.Engine, declared.replaying.ReplayFaultKind.ReplayFaultKind}
+use Rattle.labntp_jobs.specs.declared.{engine.Engine.Engine, replaying.ReplayFaultKind.ReplayFaultKind}
 use Rattle.labntp_jobs.specs.declared.replaying.ReplayFaultKind.TheVariants.{NoMemory, LineLong}
-use Rattle.labntp_jobs.specs.Script.{lines_of}
+use Rattle.labntp_jobs.specs.{Script.lines_of, Engine.AnswersLines, Engine.Halts, Engine.Fed, Engine.Stops}
 use Rattle.ntp_admin.specs.CommandsFile.{most_line_octets}
-use Rattle.labntp_jobs.specs.Engine.{AnswersLines, Halts, Fed, Stops}
 use Rattle.labntp_jobs.proofs.LineFeeds.{IsUnbroken, lines_of-ended, lines_of-begun}
 use Rattle.labntp_jobs.proofs.LinesReplayed.{Answers-nil, Answers-append, Halts-more}
 

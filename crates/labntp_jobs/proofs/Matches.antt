@@ -1,7 +1,6 @@
 -- Which exchange the server finds for a client's request.
 use Rattle.std.proofs.Common.{◌≡◌, ◌≢◌, Bool, ◌==◌, List, Option, Some, None, refl, arith}
-use Rattle.std.specs.Prelude.{Contains, if◌then◌else◌}
-use Rattle.std.specs.Option.{option_and_then}
+use Rattle.std.specs.{Prelude.Contains, Prelude.if◌then◌else◌, Option.option_and_then}
 use Rattle.std.proofs.lemmas.Bool.{cases_Bool, ne_eqb, eqb-true, eqb-false, and_parts}
 use Rattle.ntp_packet.specs.{declared.stamp.Stamp.Stamp, Header.HeaderFields, Header.no_stamp}
 use Rattle.ntp_customer.specs.{declared.slot.Slot.Slot, Exchanges.AreSaved, Exchanges.unused_at}

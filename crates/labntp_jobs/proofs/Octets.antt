@@ -6,9 +6,8 @@ use Rattle.std.specs.Int.{w32, w64, byte_at, bytes_low_first, bytes_high_first, 
 use Rattle.std.proofs.lemmas.List.Elements.{All-nil, All-cons, All-append}
 use Rattle.md5.specs.Md5.{md5, digest_bytes as md5_octets}
 use Rattle.sha1.specs.Sha1.{sha1, digest_bytes as sha1_octets}
-use Rattle.ntp_packet.specs.Header.{HeaderFields, IsHeader, first_octets, header_octets}
+use Rattle.ntp_packet.specs.{Header.HeaderFields, Header.IsHeader, Header.first_octets, Header.header_octets, Tail.digest_octets}
 use Rattle.ntp_mac.specs.{Key.SymmetricKey, Digest.hash, Digest.digest_of, Mac.nak_octets, declared.key.Algorithm.Algorithm}
-use Rattle.ntp_packet.specs.Tail.{digest_octets}
 
 -- each member is an octet
 abbrev pub Octets : List ℕ → Type 0

@@ -4,11 +4,9 @@ use Rattle.std.specs.Prelude.{if◌then◌else◌}
 use Rattle.ntp_packet.specs.{Header.HeaderFields, Header.header_octets, Request.RequestValue}
 use Rattle.ntp_mac.specs.{Mac.nak_octets, Key.SymmetricKey, Reading.reading_of}
 use Rattle.ntp_customer.specs.Past.{Past}
-use Rattle.ntp_reply.specs.declared.occasion.Occasion.{Occasion}
-use Rattle.ntp_reply.specs.{declared.kiss.Kiss.TheVariants.Rate, declared.kiss.Kiss.TheVariants.Deny, Life.Life, Life.recent_of}
-use Rattle.ntp_reply.specs.{Exchanged.stamps_of, declared.answers.Answer.Answer}
-use Rattle.ntp_reply.specs.Replies.{basic_fields, kiss_fields}
-use Rattle.ntp_reply.specs.Kind.{Kind, PassedOver, RefusedByDeny, RefusedByNak, Signed}
+use Rattle.ntp_reply.specs.declared.{occasion.Occasion.Occasion, kiss.Kiss.TheVariants.Rate, kiss.Kiss.TheVariants.Deny}
+use Rattle.ntp_reply.specs.{Life.Life, Life.recent_of, Exchanged.stamps_of, declared.answers.Answer.Answer, Replies.basic_fields}
+use Rattle.ntp_reply.specs.{Replies.kiss_fields, Kind.Kind, Kind.PassedOver, Kind.RefusedByDeny, Kind.RefusedByNak, Kind.Signed}
 use Rattle.ntp_reply.specs.Verdict.{kind_answer, verdict, signed_reply, timed}
 use Rattle.ntp_reply.specs.declared.answers.Answer.TheVariants as answer
 use Rattle.ntp_reply.specs.declared.answers.Reason.TheVariants as reason

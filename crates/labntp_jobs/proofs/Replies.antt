@@ -1,9 +1,8 @@
 -- What a client takes a server's reply for.
 use Rattle.std.proofs.Common.{◌≡◌, ◌≢◌, ℕ, ◌^◌, ◌<◌, ◌≤◌, List, ◌++◌, Some, Ok, refl, ap, ◌∙◌, arith}
 use Rattle.std.proofs.lemmas.Bool.{eq-eqb, ne_eqb}
-use Rattle.ntp_packet.specs.{declared.stamp.Stamp.Stamp, declared.moment.Moment.Moment, FirstCase.decided}
-use Rattle.ntp_packet.specs.{Tail.NoTail, Tail.BareTail, Request.RequestValue}
-use Rattle.ntp_packet.specs.Header.{HeaderFields, IsHeader, header_octets}
+use Rattle.ntp_packet.specs.{declared.stamp.Stamp.Stamp, declared.moment.Moment.Moment, FirstCase.decided, Tail.NoTail}
+use Rattle.ntp_packet.specs.{Tail.BareTail, Request.RequestValue, Header.HeaderFields, Header.IsHeader, Header.header_octets}
 use Rattle.ntp_mac.specs.{Mac.nak_octets, Reading.reading_of}
 use Rattle.ntp_client.specs.{declared.exchange.Outstanding.Outstanding, declared.pairing.Pairing.Pairing}
 use Rattle.ntp_client.specs.{declared.pairing.Pairing.TheVariants.Basic, State.ClientState, Query.query_fields}

@@ -5,9 +5,8 @@ use Rattle.ntp_packet.specs.{declared.stamp.Stamp.Stamp, Header.HeaderFields}
 use Rattle.ntp_mac.specs.Key.{SymmetricKey}
 use Rattle.ntp_customer.specs.{Customer.budget_of, Past.Past, Past.with_query}
 use Rattle.ntp_reply.specs.{declared.occasion.Occasion.Occasion, declared.kiss.Kiss.TheVariants.Rate, Life.recent_of, Kind.Signed}
-use Rattle.ntp_reply.specs.declared.answers.{Answer.Answer, SignedReply.SignedReply}
-use Rattle.ntp_reply.specs.Replies.{time_fields, kiss_fields, sealed}
-use Rattle.ntp_reply.specs.Exchanged.{matched, stamps_of, after_time}
+use Rattle.ntp_reply.specs.{declared.answers.Answer.Answer, declared.answers.SignedReply.SignedReply, Replies.time_fields}
+use Rattle.ntp_reply.specs.{Replies.kiss_fields, Replies.sealed, Exchanged.matched, Exchanged.stamps_of, Exchanged.after_time}
 use Rattle.ntp_reply.specs.Verdict.{kind_answer, after_kind, query_count, window_at, timed}
 use Rattle.ntp_reply.specs.declared.answers.Answer.TheVariants as answer
 use Rattle.ntp_reply.specs.declared.answers.Reason.TheVariants as reason

@@ -1,7 +1,6 @@
 -- What a client takes the answer to its own request for.
 use Rattle.std.proofs.Common.{◌≡◌, ◌≢◌, ℕ, ◌^◌, ◌<◌, List, Option, Some, None, refl, sym, ap, ◌∙◌, arith}
-use Rattle.std.specs.Prelude.{IfSome}
-use Rattle.std.specs.Option.{option_and_then}
+use Rattle.std.specs.{Prelude.IfSome, Option.option_and_then}
 use Rattle.std.proofs.lemmas.Option.{none-some}
 use Rattle.ntp_packet.specs.{declared.stamp.Stamp.Stamp, declared.moment.Moment.Moment, Header.header_octets}
 use Rattle.ntp_customer.specs.{declared.slot.Slot.Slot, Exchanges.AreSaved, Exchanges.unused_at, Past.Past}

@@ -5,14 +5,13 @@ use Rattle.std.proofs.{lemmas.Bool.false_from_ne_true, lemmas.Bool.Decides.nat_t
 use Rattle.std.proofs.{lemmas.Str.is_utf8-from_IsUtf8, lemmas.Str.IsUtf8-from_is_utf8, lemmas.List.length-append}
 use Rattle.std.proofs.lemmas.List.{length-drop, drop_all}
 use Rattle.ntp_service.specs.{declared.refusal.Refusal.Refusal, Registry.Registry, declared.command.Command.Command}
-use Rattle.ntp_service.specs.{declared.event.Event.Event, declared.line_fault.LineFault.LineFault}
-use Rattle.ntp_service.specs.{declared.line_fault.LineFault.TheVariants.NotUtf8, declared.observation.LineOutcome.LineOutcome}
+use Rattle.ntp_service.specs.declared.{event.Event.Event, line_fault.LineFault.LineFault}
+use Rattle.ntp_service.specs.declared.{line_fault.LineFault.TheVariants.NotUtf8, observation.LineOutcome.LineOutcome}
 use Rattle.ntp_service.specs.{declared.observation.Observation.Observation, InTurn.InTurn}
-use Rattle.ntp_service.specs.declared.event.Event.TheVariants as event
-use Rattle.ntp_service.specs.declared.observation.Observation.TheVariants.{Line}
-use Rattle.ntp_service.specs.declared.observation.LineOutcome.TheVariants.{Faulty}
-use Rattle.ntp_service.proofs.PublicLaws.{Tells-nil, Tells-one}
+use Rattle.ntp_service.specs.declared.observation.{Observation.TheVariants.Line, LineOutcome.TheVariants.Faulty}
 use Rattle.ntp_service.specs.Headline.{StandsFor, Tells, TellsOne, command_outcome}
+use Rattle.ntp_service.specs.declared.event.Event.TheVariants as event
+use Rattle.ntp_service.proofs.PublicLaws.{Tells-nil, Tells-one}
 use Rattle.ntp_admin.specs.{Words.words, Spells.command_in, Spells.is_passed_over, FileText.IsText, FileText.most_file_octets}
 use Rattle.ntp_admin.specs.CommandsFile.{complete_lines, line_reading, count_on, carried_out, CarriesOut, CarriesOutDue}
 use Rattle.ntp_admin.specs.Applying.{AppliesLine}

@@ -1,8 +1,7 @@
 -- Decimal words, as `parse` reads them.
 use Rattle.std.proofs.Common.{◌≡◌, ℕ, zero, suc, ◌^◌, ◌<◌, true, List, length, Option, Some, None, Result, refl, ap, subst, arith, rules}
-use Rattle.std.specs.Prelude.{MatchOption}
-use Rattle.std.specs.{Char.is_ascii_digit, List.list_all, Str.Parse.ParsesUnsigned, Str.Parse.digits_value, Result.result_ok}
-use Rattle.std.specs.declared.num.NonZeroU16.{NonZeroU16}
+use Rattle.std.specs.{Prelude.MatchOption, Char.is_ascii_digit, List.list_all, Str.Parse.ParsesUnsigned, Str.Parse.digits_value}
+use Rattle.std.specs.{Result.result_ok, declared.num.NonZeroU16.NonZeroU16}
 use Rattle.std.proofs.{lemmas.Bool.and_parts, lemmas.Bool.cases_lt, Math.Bridge.le_prop, lemmas.Bool.Decides.nat_tests}
 use Rattle.std.proofs.lemmas.Str.Parse.{IsNumeralModel, numerals_by_value, parse_digits}
 use Rattle.ntp_admin.specs.Words.{is_decimal, decimal_in, non_zero}

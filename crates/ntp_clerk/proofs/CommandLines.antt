@@ -1,13 +1,11 @@
 -- The line of a command says it.
 use Rattle.std.proofs.Common.{◌≡◌, ℕ, ◌<◌, ◌==◌, true, false, List, [], ◌∷◌, ◌++◌, length, Option, Some, None, IfSome, Ok, refl, sym, ap, ◌∙◌, arith, append_assoc, append-nil}
-use Rattle.std.specs.Prelude.{codes, not}
-use Rattle.std.specs.{List.join_with_byte, List.list_all, Option.option_map_or, declared.num.NonZeroU16.NonZeroU16}
-use Rattle.std.specs.Char.{is_ascii_digit, is_ascii_lowercase}
+use Rattle.std.specs.{Prelude.codes, Prelude.not, List.join_with_byte, List.list_all, Option.option_map_or}
+use Rattle.std.specs.{declared.num.NonZeroU16.NonZeroU16, Char.is_ascii_digit, Char.is_ascii_lowercase}
 use Rattle.hex.specs.Hex.{encode_lower, is_hex_digit}
 use Rattle.ntp_mac.specs.{Key.SymmetricKey, declared.key.Algorithm.Algorithm}
 use Rattle.ntp_mac.specs.declared.key.Algorithm.TheVariants.{Md5, Sha1}
-use Rattle.ntp_admin.specs.Words.{parts, algorithm_in, address_text, number_behind}
-use Rattle.ntp_admin.specs.Spells.{command_in}
+use Rattle.ntp_admin.specs.{Words.parts, Words.algorithm_in, Words.address_text, Words.number_behind, Spells.command_in}
 use Rattle.ntp_service.specs.{Commands.address_named, Commands.number_named, Vocabulary.command_word}
 use Rattle.ntp_service.specs.declared.command.Command.{Command}
 use Rattle.ntp_service.specs.declared.command.Command.TheVariants as command

@@ -1,7 +1,6 @@
 -- Words that are joined are read apart again.
 use Rattle.std.proofs.Common.{◌≡◌, ℕ, ◌<◌, ◌==◌, Bool, true, false, List, [], ◌∷◌, ◌++◌, get_or, length, refl, ap, ◌∙◌, sym, arith}
-use Rattle.std.specs.Prelude.{not}
-use Rattle.std.specs.List.{join_with_byte, list_all, All}
+use Rattle.std.specs.{Prelude.not, List.join_with_byte, List.list_all, List.All}
 use Rattle.std.proofs.lemmas.Bool.{and_from, and_parts, ne_eqb, not-true, not_from_false, true≢false}
 use Rattle.std.proofs.{lemmas.Bool.Decides.nat_tests, lemmas.List.Folds.list_all-append, lemmas.List.Sums.AllPass-from_list_all}
 use Rattle.std.proofs.lemmas.List.Splits.{slice_split_none, slice_split_at}

@@ -1,9 +1,8 @@
 -- What a customer gets is a key file, from which its key is read.
 use Rattle.std.proofs.Common.{◌≡◌, ℕ, ◌==◌, Bool, true, false, List, [], ◌∷◌, ◌++◌, ◌<◌, get_or, length, Some, Ok, refl, ap, ◌∙◌, arith, lit<}
 use Rattle.std.specs.Prelude.{codes, filter, nat_le, nat_lt, Result, if◌then◌else◌}
-use Rattle.std.specs.List.{find, enumerate_from, list_all}
-use Rattle.std.specs.{Option.option_map_or, Option.ok_or, Char.is_ascii_digit, Int.NonZero.non_zero_u16_get}
-use Rattle.std.specs.{declared.num.NonZeroU16.NonZeroU16, Str.IsUtf8}
+use Rattle.std.specs.{List.find, List.enumerate_from, List.list_all, Option.option_map_or, Option.ok_or, Char.is_ascii_digit}
+use Rattle.std.specs.{Int.NonZero.non_zero_u16_get, declared.num.NonZeroU16.NonZeroU16, Str.IsUtf8}
 use Rattle.std.proofs.{lemmas.Bool.and_parts, lemmas.List.Sums.AllPass-from_list_all, lemmas.Str.IsUtf8-from_ascii}
 use Rattle.std.proofs.{lemmas.Str.Ascii.IsAscii-from_all, lemmas.Bool.Decides.nat_tests, lemmas.Fmt.decimal_nonempty}
 use Rattle.hex.specs.Hex.{encode_lower, is_hex_digit}

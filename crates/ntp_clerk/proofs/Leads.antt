@@ -4,13 +4,11 @@ use Rattle.std.specs.Prelude.{All, Contains, IsSome, find, option_map}
 use Rattle.std.proofs.lemmas.List.Elements.{All-nil, All-append, All-weaker, All-contains_itself}
 use Rattle.ntp_customer.proofs.PublicLaws.{Contains-map}
 use Rattle.ntp_customer.specs.Customer.{Enrolment, CustomerState}
-use Rattle.ntp_service.specs.{declared.address.Address.Address, declared.command.Command.Command}
-use Rattle.ntp_service.specs.Address.{address_eq}
+use Rattle.ntp_service.specs.{declared.address.Address.Address, declared.command.Command.Command, Address.address_eq}
 use Rattle.ntp_service.specs.Registry.{Registry, customer_at, terms_at}
 use Rattle.ntp_service.proofs.PublicLaws.{same_or_other_address}
 use Rattle.ntp_clerk.specs.Leading.{enrolment_among, enrolment_with, HasExactly, IsNeeded, IsNeededAt, LeadsTo, NobodyIsForgotten}
-use Rattle.ntp_clerk.specs.declared.wanted.{Terms.Terms, Wanted.Wanted}
-use Rattle.ntp_clerk.specs.Steps.{Kept, Moves, OnlyWanted}
+use Rattle.ntp_clerk.specs.{declared.wanted.Terms.Terms, declared.wanted.Wanted.Wanted, Steps.Kept, Steps.Moves, Steps.OnlyWanted}
 use Rattle.ntp_clerk.proofs.{Having.found, Doing.leads-none, Doing.leads-append, Stepping.Contains-cases, Stepping.Contains-none}
 
 -- commands have led so far, and each was needed

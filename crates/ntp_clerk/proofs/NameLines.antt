@@ -5,8 +5,7 @@ use Rattle.std.specs.List.{position_or_len, before_first, after_first}
 use Rattle.std.proofs.lemmas.Bool.{and_parts, ne_eqb, not-true}
 use Rattle.std.proofs.Math.Seq.{take-append_seam, drop-append-add}
 use Rattle.ntp_service.specs.declared.address.Address.{Address}
-use Rattle.ntp_admin.specs.Spells.{is_passed_over}
-use Rattle.ntp_admin.specs.Words.{address_in, address_text, parts}
+use Rattle.ntp_admin.specs.{Spells.is_passed_over, Words.address_in, Words.address_text, Words.parts}
 use Rattle.ntp_clerk.specs.CommandText.{name_behind, name_in, IsAddress, IsName}
 use Rattle.ntp_clerk.proofs.Joined.{lacks, lacks-both, parts-first-line}
 use Rattle.ntp_clerk.proofs.Spelled.{reads-address, lacks-address}

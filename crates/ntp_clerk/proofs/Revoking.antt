@@ -1,15 +1,13 @@
 -- Addresses that are made revoked ones.
 use Rattle.std.proofs.Common.{◌≡◌, None, List, [], ◌∷◌, ◌++◌, length, take, get_or, ℕ, ◌+◌, ◌<◌, append_assoc, ⊎_elim, sym, ap, ◌∙◌, subst}
-use Rattle.std.specs.Prelude.{All, IsSome}
-use Rattle.std.specs.{Option.option_map_or, declared.alloc.Global.Global}
+use Rattle.std.specs.{Prelude.All, Prelude.IsSome, Option.option_map_or, declared.alloc.Global.Global}
 use Rattle.std.proofs.lemmas.List.Elements.{All-nil, All-more, All-weaker}
 use Rattle.ntp_customer.specs.Customer.{enrolment_at}
 use Rattle.ntp_service.specs.{declared.address.Address.Address, declared.command.Command.Command, Headline.StandsFor}
 use Rattle.ntp_service.specs.Registry.{Registry, customer_at, terms_at}
 use Rattle.ntp_clerk.specs.Leading.{HasExactly, LeadsTo, Makes, NobodyIsForgotten}
-use Rattle.ntp_clerk.specs.declared.wanted.Wanted.{Wanted}
+use Rattle.ntp_clerk.specs.{declared.wanted.Wanted.Wanted, Steps.AreDone, Steps.Revokes}
 use Rattle.ntp_service.proofs.PublicLaws.{same_or_other_address}
-use Rattle.ntp_clerk.specs.Steps.{AreDone, Revokes}
 use Rattle.ntp_clerk.proofs.Doing.{leads-none, leads-append, done-append}
 use Rattle.ntp_clerk.proofs.Having.{enrolled-known}
 

@@ -1,8 +1,7 @@
 -- What is written of a number, an address and a key is read as it.
 use Rattle.std.proofs.Common.{◌≡◌, ℕ, suc, ◌^◌, ◌<◌, ◌≤◌, ◌==◌, ◌||◌, true, false, List, [], ◌∷◌, length, Some, refl, ap, sym, ◌∙◌, arith, rules}
-use Rattle.std.specs.Prelude.{map, not, slice_index}
-use Rattle.std.specs.{Option.option_and_then, List.list_all, Char.is_ascii_digit, Fmt.decimal, Str.Parse.digits_value}
-use Rattle.std.specs.declared.num.NonZeroU16.{NonZeroU16}
+use Rattle.std.specs.{Prelude.map, Prelude.not, Prelude.slice_index, Option.option_and_then, List.list_all, Char.is_ascii_digit}
+use Rattle.std.specs.{Fmt.decimal, Str.Parse.digits_value, declared.num.NonZeroU16.NonZeroU16}
 use Rattle.std.proofs.{lemmas.Bool.Decides.nat_tests, lemmas.List.length-map}
 use Rattle.std.proofs.lemmas.Str.Parse.{IsNumeralModel, numerals_by_value}
 use Rattle.std.proofs.lemmas.List.Sums.{list_all-from_AllPass}
@@ -12,8 +11,7 @@ use Rattle.hex.proofs.HexLemmas.{decode_of-encode_lower, decode_of-ok, length-en
 use Rattle.ntp_service.specs.declared.address.Address.{Address}
 use Rattle.ntp_admin.specs.Words.{is_decimal, decimal_in, number_in, key_in, address_in, address_from, address_text, non_zero}
 use Rattle.ntp_admin.proofs.PublicLaws.{new-non_zero}
-use Rattle.ntp_clerk.specs.CommandText.{AreKeyOctets, IsAddress, IsNumber}
-use Rattle.ntp_clerk.specs.Grants.{number_text}
+use Rattle.ntp_clerk.specs.{CommandText.AreKeyOctets, CommandText.IsAddress, CommandText.IsNumber, Grants.number_text}
 use Rattle.ntp_clerk.proofs.Joined.{lacks, lacks-all, lacks-by, parts-all, AllLack}
 
 own : IsNumeralModel (λ ds. list_all is_ascii_digit ds ≡ true) (digits_value 10)

@@ -2,10 +2,9 @@
 use Rattle.std.proofs.Common.{◌≡◌, ◌≢◌, ℕ, ◌≤◌, Bool, true, false, ◌==◌, List, Some, Result, Ok, refl, ap, ◌∙◌, sym, subst, true≢false, arith}
 use Rattle.std.specs.Prelude.{not, if◌then◌else◌}
 use Rattle.std.proofs.{lemmas.Bool.eqb-true, lemmas.Bool.ne_eqb, lemmas.Bool.Decides.nat_tests}
-use Rattle.ntp_packet.specs.{declared.moment.Moment.Moment, Header.HeaderFields}
-use Rattle.ntp_packet.specs.Request.{RequestValue, IsRequest}
-use Rattle.ntp_packet.specs.FirstCase.{◌>>◌, provided, decided}
-use Rattle.ntp_packet.specs.Tail.{TailValue, NoTail, BareTail, MacTail}
+use Rattle.ntp_packet.specs.{declared.moment.Moment.Moment, Header.HeaderFields, Request.RequestValue, Request.IsRequest}
+use Rattle.ntp_packet.specs.{FirstCase.◌>>◌, FirstCase.provided, FirstCase.decided, Tail.TailValue, Tail.NoTail, Tail.BareTail}
+use Rattle.ntp_packet.specs.Tail.{MacTail}
 use Rattle.ntp_packet.proofs.PublicLaws.{after-provided, after-ok_or, after-map_err, AreOctets}
 use Rattle.ntp_mac.specs.{Reading.reading_of, Signed.IsSigned}
 use Rattle.ntp_mac.proofs.PublicLaws.{Reads, Reads-reading_of, is-signed}

@@ -3,11 +3,10 @@ use Rattle.std.proofs.Common.{◌≡◌, ◌≢◌, ◌==◌, Option, Some, None
 use Rattle.std.specs.Prelude.{option_and_then, if◌then◌else◌}
 use Rattle.std.proofs.lemmas.Bool.{eqb-true, eq-eqb, ne_eqb}
 use Rattle.ntp_packet.specs.{declared.stamp.Stamp.Stamp, declared.moment.Moment.Moment, Header.HeaderFields}
-use Rattle.ntp_client.specs.{declared.exchange.Exchange.Exchange, declared.exchange.Outstanding.Outstanding}
-use Rattle.ntp_client.specs.declared.pairing.Pairing.{Pairing}
+use Rattle.ntp_client.specs.declared.{exchange.Exchange.Exchange, exchange.Outstanding.Outstanding, pairing.Pairing.Pairing}
 use Rattle.ntp_client.specs.declared.pairing.Pairing.TheVariants.{Basic, Interleaved}
-use Rattle.ntp_client.specs.{declared.sample.Sample.Sample, Pairing.pairing_of, Pairing.sample_of}
-use Rattle.ntp_client.specs.Sample.{IsBasic, IsInterleaved}
+use Rattle.ntp_client.specs.{declared.sample.Sample.Sample, Pairing.pairing_of, Pairing.sample_of, Sample.IsBasic}
+use Rattle.ntp_client.specs.Sample.{IsInterleaved}
 
 -- stamps of one number are one
 same-stamp : (a b : Stamp) → a.0 ≡ b.0 → a ≡ b

@@ -3,10 +3,9 @@ use Rattle.std.proofs.Common.{◌≡◌, ℕ, List, Some, Ok, inl, inr, refl, sy
 use Rattle.ntp_packet.specs.{declared.moment.Moment.Moment, FirstCase.decided}
 use Rattle.ntp_packet.proofs.PublicLaws.{AreOctets}
 use Rattle.ntp_mac.proofs.PublicLaws.{only-reading_of}
-use Rattle.ntp_client.specs.declared.pairing.Pairing.{Pairing}
-use Rattle.ntp_client.specs.declared.pairing.Pairing.TheVariants.{Basic, Interleaved}
-use Rattle.ntp_client.specs.{declared.sample.Sample.Sample, State.ClientState, State.IsClient}
-use Rattle.ntp_client.specs.{Pairing.pairing_of, Pairing.sample_of, Sample.IsSample, Taking.taken_for, Taking.header_taken}
+use Rattle.ntp_client.specs.declared.pairing.Pairing.{Pairing, TheVariants.Basic, TheVariants.Interleaved}
+use Rattle.ntp_client.specs.{declared.sample.Sample.Sample, State.ClientState, State.IsClient, Pairing.pairing_of}
+use Rattle.ntp_client.specs.{Pairing.sample_of, Sample.IsSample, Taking.taken_for, Taking.header_taken}
 use Rattle.ntp_client.specs.declared.taken.Taken.TheVariants as taken
 use Rattle.ntp_client.proofs.Pairings.{sample-pairs, basic-pairing, interleaved-pairing}
 use Rattle.ntp_client.proofs.Authentic.{authentic, authentic-sample, time-taken}

@@ -1,19 +1,17 @@
 -- What a client takes octets for, once they are read; and what it is before and after.
 use Rattle.std.proofs.Common.{◌≡◌, ◌≢◌, ℕ, ◌<◌, List, [], ◌∷◌, Option, Some, None, Result, Ok, option_map, refl, ap, ◌∙◌, arith}
-use Rattle.std.specs.Prelude.{Contains}
-use Rattle.std.specs.Result.{result_ok}
+use Rattle.std.specs.{Prelude.Contains, Result.result_ok}
 use Rattle.std.proofs.lemmas.Bool.{eq-eqb}
 use Rattle.ntp_packet.specs.{declared.stamp.Stamp.Stamp, declared.moment.Moment.Moment, Header.HeaderFields}
 use Rattle.ntp_packet.specs.{FirstCase.◌>>◌, FirstCase.decided, Request.RequestValue, declared.malformed.Malformed.Malformed}
 use Rattle.ntp_packet.proofs.PublicLaws.{fresh-apart, fresh-nonzero}
 use Rattle.ntp_mac.specs.{Key.SymmetricKey, Reading.reading_of, Signed.IsSigned}
 use Rattle.ntp_mac.proofs.PublicLaws.{is-signed}
-use Rattle.ntp_client.specs.{declared.exchange.Exchange.Exchange, declared.exchange.Outstanding.Outstanding}
-use Rattle.ntp_client.specs.{declared.pairing.Pairing.Pairing, declared.sample.Sample.Sample, Query.transmit_of}
-use Rattle.ntp_client.specs.State.{ClientState, IsOutstanding, IsClient}
-use Rattle.ntp_client.specs.Pairing.{pairing_of, exchange_of, sample_of}
-use Rattle.ntp_client.specs.Taking.{with_mac, taken_for, header_taken}
-use Rattle.ntp_client.specs.Judging.{authentic_steps, mac_steps, tail_steps, packet_steps}
+use Rattle.ntp_client.specs.declared.{exchange.Exchange.Exchange, exchange.Outstanding.Outstanding, pairing.Pairing.Pairing}
+use Rattle.ntp_client.specs.{declared.sample.Sample.Sample, Query.transmit_of, State.ClientState, State.IsOutstanding}
+use Rattle.ntp_client.specs.{State.IsClient, Pairing.pairing_of, Pairing.exchange_of, Pairing.sample_of, Taking.with_mac}
+use Rattle.ntp_client.specs.{Taking.taken_for, Taking.header_taken, Judging.authentic_steps, Judging.mac_steps}
+use Rattle.ntp_client.specs.Judging.{tail_steps, packet_steps}
 
 -- while a request waits, octets are taken for the packet that they are read as
 pub read-taken : (c : ClientState) (q : Outstanding) (octets : List ℕ) (r : RequestValue) (at : Moment) → c.outstanding ≡ Some q

@@ -1,7 +1,6 @@
 -- Steps of a follower, one behind another.
 use Rattle.std.proofs.Common.{◌≡◌, ℕ, Option, None, Some, List, [], ◌∷◌, ◌++◌, refl, sym, ap, ◌∙◌, subst, append-nil}
-use Rattle.std.specs.Prelude.{true, false, IfSome}
-use Rattle.std.specs.List.{fold, flat_map}
+use Rattle.std.specs.{Prelude.true, Prelude.false, Prelude.IfSome, List.fold, List.flat_map}
 use Rattle.std.proofs.{lemmas.List.append_assoc, lemmas.List.Sums.fold-append, lemmas.Grind.flat_map-append}
 use Rattle.ntp_packet.specs.declared.moment.Moment.{Moment}
 use Rattle.ntp_reply.specs.Reference.{ReferenceState}

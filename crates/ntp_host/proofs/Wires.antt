@@ -2,18 +2,15 @@
 use Rattle.std.proofs.Common.{◌≡◌, ℕ, zero, suc, ◌<◌, min, Bool, true, false, Option, None, Some, Result, Ok, Err, List, [], ◌∷◌, ◌++◌, length, get_or, map, take, drop, refl, sym, ap, ◌∙◌, subst, arith, tests}
 use Rattle.std.proofs.{lemmas.Bool.false≢true, lemmas.List.take_all}
 use Rattle.std.specs.Prelude.{IfSome, IfNone, IsSomeAnd, IsErrAnd, option_map, ◌-◌, ◌^◌, if◌then◌else◌}
-use Rattle.std.specs.declared.io.Error.{Error}
-use Rattle.std.specs.{Bool.then_some, Option.option_flatten, IoError.error_kind}
-use Rattle.std.specs.declared.net.socket_addr.SocketAddr.{SocketAddr}
-use Rattle.std.specs.declared.net.socket_addr.SocketAddr.TheVariants.{V4, V6}
-use Rattle.std.specs.declared.net.socket_addr.SocketAddrV4.{SocketAddrV4}
-use Rattle.std.specs.{Net.Addr.ipv4_octets, Net.Socket.v4_ip, Net.Socket.v4_port}
+use Rattle.std.specs.{declared.io.Error.Error, Bool.then_some, Option.option_flatten, IoError.error_kind}
+use Rattle.std.specs.declared.net.socket_addr.SocketAddr.{SocketAddr, TheVariants.V4, TheVariants.V6}
+use Rattle.std.specs.{declared.net.socket_addr.SocketAddrV4.SocketAddrV4, Net.Addr.ipv4_octets, Net.Socket.v4_ip}
+use Rattle.std.specs.Net.Socket.{v4_port}
 use Rattle.ntp_packet.specs.declared.moment.Moment.{Moment}
 use Rattle.ntp_service.specs.{declared.address.Address.Address, declared.observation.Arrival.Arrival}
-use Rattle.ntp_port.specs.declared.port.PortFault.{PortFault}
-use Rattle.ntp_port.specs.declared.port.PortFault.TheVariants.{Receive, Send}
-use Rattle.ntp_port.specs.Made.{arrival_of}
-use Rattle.ntp_port.specs.Port.{TurnCall, ReadClock, TriedSend, Readings, behind, no_turn, Told, Arrives, Begins, ReceiveTells, DropTells, NowTells, SendTells, received}
+use Rattle.ntp_port.specs.declared.port.PortFault.{PortFault, TheVariants.Receive, TheVariants.Send}
+use Rattle.ntp_port.specs.{Made.arrival_of, Port.TurnCall, Port.ReadClock, Port.TriedSend, Port.Readings, Port.behind}
+use Rattle.ntp_port.specs.Port.{no_turn, Told, Arrives, Begins, ReceiveTells, DropTells, NowTells, SendTells, received}
 use Rattle.ntp_host.specs.Clock.{unread}
 use Rattle.ntp_host.specs.Wire.{WireDatagram, WireTurn, no_wire_turn, WireTold, next_turn, idle_before, is_idle, begun, waited, WireGives, ReceivesBehind, WireReceives, WireShows, WireWaits, WireDrops, WireSends, SendsWhole, wire_sends, sent_to, middle, departing, port_clock, port_datagram, port_turn, port_told}
 

@@ -1,11 +1,9 @@
 -- What is heard, one datagram after another.
 use Rattle.std.proofs.Common.{◌≡◌, ℕ, true, false, List, [], ◌∷◌, Option, Some, None, refl, sym, ap, ◌∙◌}
-use Rattle.std.specs.Prelude.{IfSome, unwrap_or, map, if◌then◌else◌}
-use Rattle.std.specs.List.{find}
+use Rattle.std.specs.{Prelude.IfSome, Prelude.unwrap_or, Prelude.map, Prelude.if◌then◌else◌, List.find}
 use Rattle.ntp_packet.specs.declared.moment.Moment.{Moment}
-use Rattle.ntp_query.specs.{declared.asker.Asker.Asker, declared.outcome.Outcome.Outcome}
-use Rattle.ntp_query.specs.{declared.outcome.Outcome.TheVariants.Silence, Asker.heard_by, Outcome.ends, Outcome.last_or}
-use Rattle.ntp_query.specs.Exchange.{Incoming, Comes, outcome_of}
+use Rattle.ntp_query.specs.declared.{asker.Asker.Asker, outcome.Outcome.Outcome, outcome.Outcome.TheVariants.Silence}
+use Rattle.ntp_query.specs.{Asker.heard_by, Outcome.ends, Outcome.last_or, Exchange.Incoming, Exchange.Comes, Exchange.outcome_of}
 
 -- what outcomes come to behind another one
 among : Outcome → List Outcome → Outcome

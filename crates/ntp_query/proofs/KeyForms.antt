@@ -1,7 +1,6 @@
 -- The form of a key, by what stands in front of it.
 use Rattle.std.proofs.Common.{◌≡◌, ℕ, false, List, Option, Some, None, Ok, sym, refl}
-use Rattle.std.specs.Prelude.{nat_eq}
-use Rattle.std.specs.{Option.ok_or, Option.option_map, List.starts_with, Str.Pattern.FindsTextPrefix}
+use Rattle.std.specs.{Prelude.nat_eq, Option.ok_or, Option.option_map, List.starts_with, Str.Pattern.FindsTextPrefix}
 use Rattle.ntp_packet.specs.FirstCase.{◌>>=◌}
 use Rattle.ntp_mac.specs.{Key.SymmetricKey, declared.key.Algorithm.Algorithm}
 use Rattle.ntp_query.specs.declared.key_file.KeyLineFault.TheVariants as line_fault

@@ -1,7 +1,6 @@
 -- The words and the lines of a key file, cut off from the left.
 use Rattle.std.proofs.Common.{◌≡◌, ℕ, ◌+◌, ◌<◌, Bool, true, false, List, [], ◌∷◌, length, Some, None, Bor, Result, Err, ap, ◌∙◌, arith, lit<, length-append}
-use Rattle.std.specs.Prelude.{filter, nat_lt, if◌then◌else◌}
-use Rattle.std.specs.{List.find, List.enumerate_from, Option.ok_or}
+use Rattle.std.specs.{Prelude.filter, Prelude.nat_lt, Prelude.if◌then◌else◌, List.find, List.enumerate_from, Option.ok_or}
 use Rattle.std.proofs.lemmas.Str.Pattern.{IsSplitOnceResult, split_parts}
 use Rattle.ntp_packet.specs.FirstCase.{◌>>=◌}
 use Rattle.ntp_mac.specs.Key.{SymmetricKey}

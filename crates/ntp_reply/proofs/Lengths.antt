@@ -1,7 +1,6 @@
 -- How many octets requests and replies have.
 use Rattle.std.proofs.Common.{◌≡◌, ℕ, ◌+◌, ◌≤◌, List, length, Ok, ap, arith}
-use Rattle.ntp_packet.specs.Tail.{TailValue, MacTail, tail_octets, IsTail}
-use Rattle.ntp_packet.specs.Request.{RequestValue, IsReading}
+use Rattle.ntp_packet.specs.{Tail.TailValue, Tail.MacTail, Tail.tail_octets, Tail.IsTail, Request.RequestValue, Request.IsReading}
 use Rattle.ntp_packet.specs.declared.digests.Digest.TheVariants as digest
 use Rattle.ntp_packet.proofs.PublicLaws.{length-signed}
 use Rattle.ntp_mac.specs.{Key.SymmetricKey, Digest.digest_length, Digest.hash, Signed.IsSigned, declared.key.Algorithm.Algorithm}

@@ -1,16 +1,14 @@
 -- How many octets the reply of an answer has.
 use Rattle.std.proofs.Common.{◌≡◌, ℕ, zero, suc, ◌+◌, ◌*◌, ◌≤◌, Bool, true, List, [], ◌∷◌, length, length-append, Option, Result, Ok, Err, refl, arith}
 use Rattle.std.proofs.lemmas.Grind.{common_steps}
-use Rattle.std.specs.Prelude.{if◌then◌else◌, ok_or, slice_index}
-use Rattle.std.specs.Int.{w32, to_be_bytes}
+use Rattle.std.specs.{Prelude.if◌then◌else◌, Prelude.ok_or, Prelude.slice_index, Int.w32, Int.to_be_bytes}
 use Rattle.md5.proofs.StandardFacts.{length-md5}
 use Rattle.sha1.specs.Sha1.{sha1, digest_bytes as sha1_octets}
 use Rattle.ntp_packet.specs.{Header.HeaderFields, Header.header_octets, Tail.TailValue, Tail.digest_octets}
-use Rattle.ntp_packet.specs.declared.malformed.Malformed.{Malformed}
+use Rattle.ntp_packet.specs.{declared.malformed.Malformed.Malformed, FirstCase.◌>>=◌, FirstCase.◌>>◌, FirstCase.provided}
+use Rattle.ntp_packet.specs.{FirstCase.decided, Request.RequestValue, Request.IsReading, Request.IsRequest}
 use Rattle.ntp_packet.proofs.PublicLaws.{four-cells}
 use Rattle.ntp_customer.specs.{declared.slot.Slot.Slot, Customer.Enrolment, Past.Past}
-use Rattle.ntp_packet.specs.FirstCase.{◌>>=◌, ◌>>◌, provided, decided}
-use Rattle.ntp_packet.specs.Request.{RequestValue, IsReading, IsRequest}
 use Rattle.ntp_mac.specs.{Key.SymmetricKey, Digest.digest_length, Digest.hash, Mac.mac_of, Reading.reading_of}
 use Rattle.ntp_mac.specs.declared.key.Algorithm.{Algorithm}
 use Rattle.ntp_mac.proofs.PublicLaws.{is-signed}

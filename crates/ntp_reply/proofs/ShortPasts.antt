@@ -1,14 +1,12 @@
 -- Pasts that leave the same.
 use Rattle.std.proofs.Common.{◌≡◌, ℕ, ◌<◌, ◌==◌, min, nat_lt, Bool, true, false, List, sym, ap, ◌∙◌, arith}
-use Rattle.std.specs.Prelude.{if◌then◌else◌}
-use Rattle.std.specs.Option.{option_map_or}
+use Rattle.std.specs.{Prelude.if◌then◌else◌, Option.option_map_or}
 use Rattle.std.proofs.lemmas.Bool.Decides.{nat_tests}
-use Rattle.ntp_customer.specs.Tally.{tally, count_in, most_counted}
+use Rattle.ntp_customer.specs.{Tally.tally, Tally.count_in, Tally.most_counted, Customer.enrolment_at, Customer.budget_of}
+use Rattle.ntp_customer.specs.{Customer.changing, Past.Past, Past.queries_in, Past.with_refusal, Past.with_query, Past.short}
 use Rattle.ntp_customer.proofs.PublicLaws.{tally-tells_all, with_queries, enrolment_at-short, queries_kept, queries-short, short-with_query}
 use Rattle.ntp_packet.specs.Header.{HeaderFields}
 use Rattle.ntp_mac.specs.Reading.{reading_of}
-use Rattle.ntp_customer.specs.Customer.{enrolment_at, budget_of, changing}
-use Rattle.ntp_customer.specs.Past.{Past, queries_in, with_refusal, with_query, short}
 use Rattle.ntp_reply.specs.{declared.occasion.Occasion.Occasion, Life.recent_of, Exchanged.after_time}
 use Rattle.ntp_reply.specs.Kind.{Kind, PassedOver, RefusedByDeny, RefusedByNak, Signed, octets_kind, kind_of}
 use Rattle.ntp_reply.specs.Verdict.{kind_answer, after_kind, window_at, query_count, refusals_sent}

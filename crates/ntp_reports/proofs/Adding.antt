@@ -2,8 +2,7 @@
 use Rattle.std.proofs.Common.{◌≡◌, List, [], ◌∷◌, ◌++◌, arith}
 use Rattle.std.proofs.{lemmas.Grind.flat_map-append, lemmas.List.Sums.sum_by-append}
 use Rattle.ntp_reply.specs.declared.answers.Answer.{Answer}
-use Rattle.ntp_service.specs.{declared.observation.Arrival.Arrival, declared.observation.Observation.Observation}
-use Rattle.ntp_service.specs.declared.observation.Sending.{Sending}
+use Rattle.ntp_service.specs.declared.observation.{Arrival.Arrival, Observation.Observation, Sending.Sending}
 use Rattle.ntp_service.specs.declared.observation.TurnOutcome.TheVariants.{Answered}
 use Rattle.ntp_service.specs.declared.observation.Observation.TheVariants as observation
 use Rattle.ntp_reports.specs.{declared.kind.Kind.Kind, declared.counts.Counts.Counts, Counted.CountsOneMore, Counted.Adds}

@@ -1,8 +1,7 @@
 -- Texts that are written one after another.
 use Rattle.std.proofs.Common.{◌≡◌, ℕ, ◌+◌, ◌-◌, ◌<◌, ◌/◌, ◌%◌, ◌^◌, false, List, [], ◌∷◌, ◌++◌, length, take, get_or, replicate, Option, ap, sym, subst, ◌∙◌, append_assoc, append-nil, arith}
-use Rattle.std.specs.Prelude.{codes, map, flat_map}
-use Rattle.std.specs.Fmt.{decimal, padded_integral, char_count, format_spec}
-use Rattle.std.specs.Io.KnownBytes.{Appends}
+use Rattle.std.specs.{Prelude.codes, Prelude.map, Prelude.flat_map, Fmt.decimal, Fmt.padded_integral, Fmt.char_count}
+use Rattle.std.specs.{Fmt.format_spec, Io.KnownBytes.Appends}
 use Rattle.std.proofs.KnownBytes.{Appends-trans}
 use Rattle.std.proofs.lemmas.List.{take_more}
 use Rattle.std.proofs.lemmas.{Grind.flat_map-append, List.Folds.flat_map-map}

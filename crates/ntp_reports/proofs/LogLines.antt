@@ -1,12 +1,10 @@
 -- The pieces of lines of the log, in the order in which they are written.
 use Rattle.std.proofs.Common.{◌≡◌, ℕ, List, [], ◌∷◌, ◌++◌, length, map, Option, Some, None, sym, ap, ◌∙◌, subst, append_assoc, append-nil}
-use Rattle.std.specs.Prelude.{codes, slice_index}
-use Rattle.std.specs.{List.join_with_byte, Option.option_map_or, Fmt.decimal, Int.NonZero.non_zero_u16_get}
-use Rattle.std.specs.{declared.num.NonZeroU16.NonZeroU16, Io.KnownBytes.Appends}
+use Rattle.std.specs.{Prelude.codes, Prelude.slice_index, List.join_with_byte, Option.option_map_or, Fmt.decimal}
+use Rattle.std.specs.{Int.NonZero.non_zero_u16_get, declared.num.NonZeroU16.NonZeroU16, Io.KnownBytes.Appends}
 use Rattle.std.proofs.KnownBytes.{Appends-trans}
 use Rattle.ntp_packet.proofs.PublicLaws.{four-cells}
-use Rattle.ntp_service.specs.{declared.address.Address.Address, declared.command.Command.Command}
-use Rattle.ntp_service.specs.declared.observation.LineOutcome.{LineOutcome}
+use Rattle.ntp_service.specs.declared.{address.Address.Address, command.Command.Command, observation.LineOutcome.LineOutcome}
 use Rattle.ntp_service.specs.{Commands.address_named, Commands.number_named, Vocabulary.command_word}
 use Rattle.ntp_admin.specs.Words.{address_text, number_behind}
 use Rattle.ntp_reports.specs.{AnswerText.line_outcome_text, Logging.logged_command, Logging.logged_line}

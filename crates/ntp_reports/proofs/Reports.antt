@@ -5,9 +5,8 @@ use Rattle.std.specs.{Option.option_or, Option.option_to_list, List.cons_option,
 use Rattle.std.proofs.{lemmas.Bool.Decides.nat_tests, lemmas.List.reverse-append, lemmas.List.Elements.filter-append}
 use Rattle.ntp_packet.specs.declared.moment.Moment.{Moment}
 use Rattle.ntp_service.specs.{declared.address.Address.Address, Address.address_eq, declared.observation.Arrival.Arrival}
-use Rattle.ntp_service.specs.{declared.observation.Observation.Observation, declared.observation.Observation.TheVariants.Turn}
-use Rattle.ntp_service.specs.{declared.observation.Sending.Sending, declared.observation.TurnOutcome.TurnOutcome}
-use Rattle.ntp_service.specs.declared.observation.TurnOutcome.TheVariants.{Answered, NothingReceived}
+use Rattle.ntp_service.specs.declared.observation.{Observation.Observation, Observation.TheVariants.Turn, Sending.Sending}
+use Rattle.ntp_service.specs.declared.observation.TurnOutcome.{TurnOutcome, TheVariants.Answered, TheVariants.NothingReceived}
 use Rattle.ntp_reply.specs.declared.answers.Answer.{Answer}
 use Rattle.ntp_reports.specs.declared.customer_report.{KeyUse.KeyUse, Signing.Signing, CustomerReport.CustomerReport}
 use Rattle.ntp_reports.specs.{declared.customer_counts.CustomerCounts.CustomerCounts, Counted.AreCounts}

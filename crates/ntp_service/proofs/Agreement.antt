@@ -1,10 +1,9 @@
 -- What the changes of a register do to the agreement of its customers and its holders.
 use Rattle.std.proofs.Common.{◌≡◌, ◌≢◌, ℕ, true, false, List, [], ◌∷◌, ◌++◌, Option, Some, None, Contains, refl, sym, ap, ◌∙◌, subst, ⊎_elim, unwrap_or, is_some, arith}
-use Rattle.std.specs.Prelude.{◌↔◌}
+use Rattle.std.specs.{Prelude.◌↔◌, Ordering.nat_cmp, Option.option_map_or, Int.NonZero.non_zero_u16_get}
+use Rattle.std.specs.{declared.num.NonZeroU16.NonZeroU16, FinMap.get-empty}
 use Rattle.std.proofs.{lemmas.Option.none-some, lemmas.Bool.Decides.nat_tests}
 use Rattle.std.proofs.lemmas.List.Elements.{Contains-append_left, Contains-append_right, Contains-append_cases}
-use Rattle.std.specs.{Ordering.nat_cmp, Option.option_map_or, Int.NonZero.non_zero_u16_get, declared.num.NonZeroU16.NonZeroU16}
-use Rattle.std.specs.FinMap.{get-empty}
 use Rattle.ntp_mac.specs.Key.{SymmetricKey}
 use Rattle.ntp_service.specs.{declared.address.Address.Address, Address.address_cmp}
 use Rattle.ntp_service.specs.{declared.refusal.Refusal.TheVariants.NotEnrolled, declared.command.Command.Command}

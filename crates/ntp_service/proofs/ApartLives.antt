@@ -4,13 +4,11 @@ use Rattle.std.proofs.lemmas.Grind.{common_steps}
 use Rattle.std.specs.Prelude.{if◌then◌else◌}
 use Rattle.ntp_customer.specs.{Exchanges.AreSaved, Customer.Enrolment, Customer.with_terms}
 use Rattle.ntp_customer.proofs.PublicLaws.{AreSaved-nil, with_key, without_key}
-use Rattle.ntp_reply.specs.Life.{Life, enrolment_in, recent_in}
-use Rattle.ntp_reply.specs.{Kind.kind_of, Replies.occasion_of}
+use Rattle.ntp_reply.specs.{Life.Life, Life.enrolment_in, Life.recent_in, Kind.kind_of, Replies.occasion_of}
 use Rattle.ntp_reply.proofs.PublicLaws.{AreSaved-none, AreSaved-after_kind, AreSaved-after_departure}
-use Rattle.ntp_service.specs.{declared.command.Command.Command, declared.event.Event.Event}
-use Rattle.ntp_service.specs.Commands.{refusal_of, once_done}
+use Rattle.ntp_service.specs.{declared.command.Command.Command, declared.event.Event.Event, Commands.refusal_of}
+use Rattle.ntp_service.specs.{Commands.once_done, Model.after, Model.life_after, Model.life_of}
 use Rattle.ntp_service.specs.declared.event.Event.TheVariants as event
-use Rattle.ntp_service.specs.Model.{after, life_after, life_of}
 use Rattle.ntp_service.proofs.Lives.{by_life}
 
 -- a change of terms leaves the exchanges

@@ -1,20 +1,18 @@
 -- One command, by what the register did on it.
 use Rattle.std.proofs.Common.{◌≡◌, ◌≢◌, ℕ, Bool, true, false, Option, Some, None, Result, Ok, Err, IsSome, is_some, option_map, List, [], ◌∷◌, ◌++◌, refl, sym, ap, ◌∙◌, subst, true≢false, arith}
-use Rattle.std.specs.Prelude.{◌↔◌, OnErr, if◌then◌else◌, option_and_then}
-use Rattle.std.specs.Option.{option_map_or}
+use Rattle.std.specs.{Prelude.◌↔◌, Prelude.OnErr, Prelude.if◌then◌else◌, Prelude.option_and_then, Option.option_map_or}
 use Rattle.ntp_customer.specs.{Tally.tally, Customer.Enrolment, Customer.CustomerState, Past.short}
-use Rattle.ntp_service.specs.{declared.address.Address.Address, declared.refusal.Refusal.Refusal}
-use Rattle.ntp_service.specs.{declared.refusal.Refusal.TheVariants.KeyTaken, declared.command.Command.Command}
-use Rattle.ntp_service.specs.declared.event.Event.{Event}
-use Rattle.ntp_service.specs.{declared.outcome.Outcome.TheVariants.Done, declared.outcome.Outcome.TheVariants.Refused, Events.own}
-use Rattle.ntp_service.specs.Model.{life_of}
-use Rattle.ntp_service.specs.Commands.{address_named, number_wanted, refusal_of, is_foreign, once_done}
-use Rattle.ntp_service.specs.Registry.{Registry, Agrees, AnswersCommand, customer_at, terms_at, holder_of, after_command, own_refusal, holder_in_way}
+use Rattle.ntp_service.specs.declared.{address.Address.Address, refusal.Refusal.Refusal, refusal.Refusal.TheVariants.KeyTaken}
+use Rattle.ntp_service.specs.declared.{command.Command.Command, event.Event.Event, outcome.Outcome.TheVariants.Done}
+use Rattle.ntp_service.specs.{declared.outcome.Outcome.TheVariants.Refused, Events.own, Model.life_of, Commands.address_named}
+use Rattle.ntp_service.specs.Commands.{number_wanted, refusal_of, is_foreign, once_done}
+use Rattle.ntp_service.specs.Registry.{Registry, Agrees, AnswersCommand, customer_at, terms_at, holder_of, after_command}
+use Rattle.ntp_service.specs.{Registry.own_refusal, Registry.holder_in_way, Headline.StandsFor, Headline.TellsOne}
+use Rattle.ntp_service.specs.Headline.{IsTaken, command_outcome}
 use Rattle.ntp_service.proofs.{Lookups.customer_at-with_customer, Lookups.customer_at-with_customer-other, Lives.undone}
 use Rattle.ntp_service.proofs.{KeptLives.kept-done, Holders.taken-so, Holders.terms-are}
 use Rattle.ntp_reply.specs.Life.{Life, enrolment_in}
 use Rattle.ntp_service.specs.declared.event.Event.TheVariants as event
-use Rattle.ntp_service.specs.Headline.{StandsFor, TellsOne, IsTaken, command_outcome}
 use Rattle.ntp_service.proofs.Histories.{stands-step, stands-same, tells-one}
 
 -- ---- the register after a command that is done

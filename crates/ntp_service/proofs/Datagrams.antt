@@ -2,14 +2,13 @@
 use Rattle.std.proofs.Common.{◌≡◌, Bool, false, Some, None, option_map, List, sym, ap, ◌∙◌, arith}
 use Rattle.std.specs.Bool.{OnFalse}
 use Rattle.std.proofs.lemmas.Option.{none-some}
-use Rattle.ntp_service.specs.{declared.address.Address.Address, declared.event.Event.Event, declared.outcome.Outcome.Outcome}
-use Rattle.ntp_service.specs.Events.{address_of, own}
+use Rattle.ntp_service.specs.declared.{address.Address.Address, event.Event.Event, outcome.Outcome.Outcome}
+use Rattle.ntp_service.specs.{Events.address_of, Events.own, Registry.Registry, Registry.Agrees, Registry.customer_at}
+use Rattle.ntp_service.specs.{Registry.with_customer, Model.life_of, Model.after, Model.answer_to, Model.departure_outcome}
+use Rattle.ntp_service.specs.Headline.{StandsFor, TellsOne, IsTaken, is_struck, number_asked}
 use Rattle.ntp_customer.specs.{Customer.CustomerState, Past.Past, Past.short}
-use Rattle.ntp_service.specs.Registry.{Registry, Agrees, customer_at, with_customer}
 use Rattle.ntp_service.proofs.Lookups.{customer_at-with_customer, customer_at-with_customer-other, with_customer-present}
 use Rattle.ntp_reply.specs.Life.{Life}
-use Rattle.ntp_service.specs.Model.{life_of, after, answer_to, departure_outcome}
-use Rattle.ntp_service.specs.Headline.{StandsFor, TellsOne, IsTaken, is_struck, number_asked}
 use Rattle.ntp_service.proofs.Lives.{by_kept, never-enrolled}
 use Rattle.ntp_service.proofs.Histories.{stands-step, stands-same, tells-one}
 

@@ -6,8 +6,7 @@ use Rattle.ntp_service.specs.{declared.event.Event.Event, declared.outcome.Outco
 use Rattle.ntp_customer.proofs.PublicLaws.{with_refusals}
 use Rattle.ntp_customer.specs.Past.{Past}
 use Rattle.ntp_reply.specs.{Life.Life, Reference.ReferenceState, declared.answers.Answer.Answer, Kind.Kind}
-use Rattle.ntp_reply.specs.declared.occasion.Occasion.{Occasion}
-use Rattle.ntp_reply.specs.Verdict.{after_signed, kind_answer, after_kind}
+use Rattle.ntp_reply.specs.{declared.occasion.Occasion.Occasion, Verdict.after_signed, Verdict.kind_answer, Verdict.after_kind}
 use Rattle.ntp_service.specs.declared.event.Event.TheVariants as event
 use Rattle.ntp_service.specs.declared.outcome.Outcome.TheVariants as outcome
 use Rattle.ntp_service.specs.Model.{answer_to, after, life_after, life_of, says_after}

@@ -3,15 +3,14 @@ use Rattle.std.proofs.Common.{◌≡◌, ◌≢◌, true, false, option_map, Lis
 use Rattle.std.proofs.{lemmas.Grind.common_steps, lemmas.List.Elements.filter-append}
 use Rattle.std.specs.{Ordering.is_eq, declared.cmp.Ordering.Ordering, declared.cmp.Ordering.TheVariants.Equal, FinMap.get-empty}
 use Rattle.ntp_service.specs.{declared.address.Address.Address, Address.address_eq, Address.address_cmp}
-use Rattle.ntp_service.specs.{declared.event.Event.Event, declared.outcome.Outcome.Outcome}
-use Rattle.ntp_service.specs.Registry.{Registry, Agrees, customer_at, empty_registry}
+use Rattle.ntp_service.specs.{declared.event.Event.Event, declared.outcome.Outcome.Outcome, Registry.Registry, Registry.Agrees}
+use Rattle.ntp_service.specs.{Registry.customer_at, Registry.empty_registry, Events.address_of, Events.names, Events.own}
+use Rattle.ntp_service.specs.{Model.answer_to, Model.after, Model.life_after, Model.life_of, Headline.StandsFor}
+use Rattle.ntp_service.specs.Headline.{TellsOne, IsTaken, is_struck}
 use Rattle.ntp_service.proofs.AddressLaws.{address_eq_equiv, addresses, same_or_other_address}
 use Rattle.ntp_service.proofs.Agreement.{agrees-empty}
 use Rattle.ntp_customer.specs.Past.{short}
 use Rattle.ntp_reply.specs.Life.{Life}
-use Rattle.ntp_service.specs.Events.{address_of, names, own}
-use Rattle.ntp_service.specs.Model.{answer_to, after, life_after, life_of}
-use Rattle.ntp_service.specs.Headline.{StandsFor, TellsOne, IsTaken, is_struck}
 
 tie : (o : Ordering) → is_eq o ≡ true → o ≡ Equal
 tie o e = grind arith

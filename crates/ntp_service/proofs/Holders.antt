@@ -1,7 +1,6 @@
 -- Who holds a number.
 use Rattle.std.proofs.Common.{◌≡◌, ℕ, zero, suc, ◌==◌, Option, Some, None, IsSome, Contains, is_some, option_map, List, [], ◌∷◌, map, find, refl, sym, ap, ◌∙◌, subst, true, arith}
-use Rattle.std.specs.Prelude.{◌↔◌}
-use Rattle.std.specs.Option.{option_map_or}
+use Rattle.std.specs.{Prelude.◌↔◌, Option.option_map_or}
 use Rattle.std.proofs.lemmas.Bool.Decides.{nat_tests}
 use Rattle.ntp_customer.specs.{declared.numbered_key.NumberedKey.NumberedKey, Past.short}
 use Rattle.ntp_customer.specs.Customer.{Enrolment, enrolment_at, numbers_in}

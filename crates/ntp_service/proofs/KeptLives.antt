@@ -1,18 +1,16 @@
 -- An event in lives that leave the same.
 use Rattle.std.proofs.Common.{◌≡◌, ◌<◌, [], Option, Some, None, is_some, option_map, refl, sym, ap, ◌∙◌, arith}
-use Rattle.std.specs.Prelude.{if◌then◌else◌}
-use Rattle.std.specs.{Option.option_map_or, Int.NonZero.non_zero_u16_get}
+use Rattle.std.specs.{Prelude.if◌then◌else◌, Option.option_map_or, Int.NonZero.non_zero_u16_get}
 use Rattle.std.proofs.lemmas.Option.{none-some, same_Some}
 use Rattle.ntp_customer.specs.{Tally.most_counted, Tally.tally, Past.Past, Past.short}
 use Rattle.ntp_customer.specs.Customer.{CustomerState, enrolment_of, enrolment_at, budget_of}
 use Rattle.ntp_reply.specs.{Life.Life, Replies.occasion_of}
 use Rattle.ntp_reply.proofs.PublicLaws.{short-new, departure-alike, datagram-alike}
-use Rattle.ntp_service.specs.{declared.command.Command.Command, declared.command.Command.TheVariants.Enrol}
-use Rattle.ntp_service.specs.{declared.event.Event.Event, declared.outcome.Outcome.Outcome}
+use Rattle.ntp_service.specs.declared.{command.Command.Command, command.Command.TheVariants.Enrol, event.Event.Event}
+use Rattle.ntp_service.specs.{declared.outcome.Outcome.Outcome, Commands.numbered, Commands.refusal_of, Commands.once_done}
+use Rattle.ntp_service.specs.Model.{departure_outcome, answer_to, after}
 use Rattle.ntp_service.specs.declared.event.Event.TheVariants as event
 use Rattle.ntp_service.specs.declared.outcome.Outcome.TheVariants as outcome
-use Rattle.ntp_service.specs.Commands.{numbered, refusal_of, once_done}
-use Rattle.ntp_service.specs.Model.{departure_outcome, answer_to, after}
 use Rattle.ntp_service.proofs.Lives.{by_life, enrolment-kept, command_answer, life_after_command}
 
 -- what is kept after a command that is done follows from what was kept

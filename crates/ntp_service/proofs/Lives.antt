@@ -1,15 +1,11 @@
 -- Lives by their cases, what is kept of them, and the commands that leave them as they are.
 use Rattle.std.proofs.Common.{◌≡◌, ◌≢◌, ℕ, List, [], Some, None, is_some, option_map, refl, arith}
-use Rattle.std.specs.Prelude.{if◌then◌else◌}
-use Rattle.std.specs.Option.{option_map_or}
+use Rattle.std.specs.{Prelude.if◌then◌else◌, Option.option_map_or}
 use Rattle.std.proofs.lemmas.Option.{none-some, same_Some}
-use Rattle.ntp_customer.specs.Customer.{AccountOf, CustomerState, enrolment_at}
-use Rattle.ntp_customer.specs.Past.{Past, short}
+use Rattle.ntp_customer.specs.{Customer.AccountOf, Customer.CustomerState, Customer.enrolment_at, Past.Past, Past.short}
 use Rattle.ntp_customer.proofs.PublicLaws.{by_past}
-use Rattle.ntp_service.specs.{declared.command.Command.Command}
-use Rattle.ntp_service.specs.declared.outcome.Outcome.{Outcome}
-use Rattle.ntp_service.specs.declared.outcome.Outcome.TheVariants.{Done, Refused}
-use Rattle.ntp_service.specs.Commands.{refusal_of, once_done}
+use Rattle.ntp_service.specs.declared.{command.Command.Command, outcome.Outcome.Outcome, outcome.Outcome.TheVariants.Done}
+use Rattle.ntp_service.specs.{declared.outcome.Outcome.TheVariants.Refused, Commands.refusal_of, Commands.once_done}
 use Rattle.ntp_reply.specs.Life.{Life, enrolment_in}
 
 -- a life is that of an address that was never enrolled, of one that is not enrolled now, or of one that is

@@ -4,11 +4,10 @@ use Rattle.std.specs.Prelude.{if◌then◌else◌}
 use Rattle.std.proofs.lemmas.Bool.{cases_Bool}
 use Rattle.std.proofs.lemmas.List.Elements.{filter-append, All-head, All-tail}
 use Rattle.ntp_service.specs.{declared.address.Address.Address, Registry.Registry, declared.event.Event.Event}
-use Rattle.ntp_service.specs.declared.outcome.Outcome.{Outcome}
+use Rattle.ntp_service.specs.{declared.outcome.Outcome.Outcome, Events.address_of, Events.names, Events.own, Model.answer_to}
+use Rattle.ntp_service.specs.{Model.life_of, Model.FollowsModel, Headline.HasCause, Headline.Tells, Headline.is_struck}
+use Rattle.ntp_service.specs.Headline.{not_struck, happened_to}
 use Rattle.ntp_service.proofs.{AddressLaws.address_eq_equiv, Histories.events_of, Stretches.follows-behind}
-use Rattle.ntp_service.specs.Events.{address_of, names, own}
-use Rattle.ntp_service.specs.Model.{answer_to, life_of, FollowsModel}
-use Rattle.ntp_service.specs.Headline.{HasCause, Tells, is_struck, not_struck, happened_to}
 use Rattle.ntp_service.proofs.Runs.{AreCaused, regrouped, life-behind}
 
 module _ {A : Type 0} where

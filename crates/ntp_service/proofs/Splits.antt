@@ -1,17 +1,16 @@
 -- Customers split over services.
 use Rattle.std.proofs.Common.{◌≡◌, ◌≢◌, ◌⊎◌, ℕ, Bool, true, false, None, List, [], ◌∷◌, filter, refl, sym, ap, ◌∙◌, arith, rules}
 use Rattle.std.proofs.{lemmas.Bool.cases_Bool, lemmas.Option.none-some}
-use Rattle.ntp_service.specs.declared.address.Address.{Address}
-use Rattle.ntp_service.specs.declared.refusal.Refusal.TheVariants.{KeyTaken, NoMemory}
-use Rattle.ntp_service.specs.{Registry.Registry, declared.event.Event.Event, declared.outcome.Outcome.Outcome}
+use Rattle.ntp_service.specs.declared.{address.Address.Address, refusal.Refusal.TheVariants.KeyTaken}
+use Rattle.ntp_service.specs.{declared.refusal.Refusal.TheVariants.NoMemory, Registry.Registry, declared.event.Event.Event}
+use Rattle.ntp_service.specs.{declared.outcome.Outcome.Outcome, Events.address_of, Events.names, Events.own, Model.answer_to}
+use Rattle.ntp_service.specs.{Model.after, Model.life_after, Model.life_of, Headline.IsEnrolledWith, Headline.Tells}
+use Rattle.ntp_service.specs.{Headline.is_struck, Split.is_command, Split.names_any, Split.comes_to, Split.HadMemory}
+use Rattle.ntp_service.specs.Split.{NoneStruck}
 use Rattle.ntp_service.proofs.{AddressLaws.same_or_other_address, Histories.events_of, Histories.other-address}
 use Rattle.ntp_service.proofs.Parts.{IsTold, tell-alike}
 use Rattle.ntp_reply.specs.Life.{Life, enrolment_in}
 use Rattle.ntp_service.specs.declared.outcome.Outcome.TheVariants as outcome
-use Rattle.ntp_service.specs.Events.{address_of, names, own}
-use Rattle.ntp_service.specs.Model.{answer_to, after, life_after, life_of}
-use Rattle.ntp_service.specs.Headline.{IsEnrolledWith, Tells, is_struck}
-use Rattle.ntp_service.specs.Split.{is_command, names_any, comes_to, HadMemory, NoneStruck}
 use Rattle.ntp_service.proofs.Enrolments.{asks-nothing, enrolment-other, enrolment-alike, taken-over, command-alike}
 
 -- an outcome that is not for want of memory is that a number is taken, or it is not struck out

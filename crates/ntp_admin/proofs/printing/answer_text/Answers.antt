@@ -1,6 +1,5 @@
 use Rattle.std.proofs.Common.{◌≡◌, List, ℕ, ◌++◌, ◌∙◌, ap, refl, append_assoc, codes}
-use Rattle.std.specs.Prelude.{string_bytes}
-use Rattle.std.specs.Int.{w64, to_be_bytes}
+use Rattle.std.specs.{Prelude.string_bytes, Int.w64, Int.to_be_bytes}
 use Rattle.std.proofs.lemmas.Result.{IfOk-weaker}
 use Rattle.hex.specs.Hex.{encode_lower}
 use Rattle.ntp_packet.specs.declared.stamp.Stamp.{Stamp}

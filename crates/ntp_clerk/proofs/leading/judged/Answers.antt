@@ -1,6 +1,5 @@
 use Rattle.std.proofs.Common.{ap, take, arith, ℕ}
-use Rattle.std.specs.Prelude.{nat_eq}
-use Rattle.std.specs.{Map.lookup, List.list_any}
+use Rattle.std.specs.{Prelude.nat_eq, Map.lookup, List.list_any}
 use Rattle.std.proofs.{lemmas.List.take_more, lemmas.List.take_all, lemmas.Result.err_from_is_err_and}
 use Rattle.indexmap.specs.{IndexMap.get, IndexSet.contains}
 use Rattle.ntp_service.specs.{declared.address.Address.Address, Address.address_eq}

@@ -1,6 +1,5 @@
 use Rattle.std.proofs.Common.{◌≡◌, false, codes, arith}
-use Rattle.std.specs.Prelude.{nat_eq}
-use Rattle.std.specs.List.{starts_with}
+use Rattle.std.specs.{Prelude.nat_eq, List.starts_with}
 use Rattle.std.proofs.lemmas.Grind.{common_steps}
 use Rattle.ntp_query.proofs.KeyForms.{no-prefix}
 use Rattle.ntp_query.proofs.key_file.key_of.Goals as goal

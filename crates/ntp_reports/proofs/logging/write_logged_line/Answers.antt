@@ -1,7 +1,6 @@
 use Rattle.std.proofs.Common.{subst, sym, ap}
-use Rattle.std.specs.Prelude.{option_copied}
+use Rattle.std.specs.{Prelude.option_copied, Io.KnownBytes.Appends}
 use Rattle.std.proofs.lemmas.Result.{on_ok_weaker}
-use Rattle.std.specs.Io.KnownBytes.{Appends}
 use Rattle.ntp_reports.specs.Logging.{logged_command}
 use Rattle.ntp_reports.proofs.LogLines.{beginning, line-with, line-without}
 use Rattle.ntp_reports.proofs.logging.write_logged_line.Goals.{in-Some+in_ok-write_command, in_default}

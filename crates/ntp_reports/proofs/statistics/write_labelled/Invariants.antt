@@ -1,5 +1,4 @@
-use Rattle.std.specs.Prelude.{flat_map, take, map}
-use Rattle.std.specs.Io.KnownBytes.{Appends}
+use Rattle.std.specs.{Prelude.flat_map, Prelude.take, Prelude.map, Io.KnownBytes.Appends}
 use Rattle.ntp_reports.specs.Statistics.{labelled}
 use Rattle.ntp_reports.proofs.statistics.write_labelled.Given as goal
 

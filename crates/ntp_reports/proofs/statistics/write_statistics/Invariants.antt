@@ -1,5 +1,4 @@
-use Rattle.std.specs.Prelude.{flat_map, take}
-use Rattle.std.specs.Io.KnownBytes.{Appends}
+use Rattle.std.specs.{Prelude.flat_map, Prelude.take, Io.KnownBytes.Appends}
 use Rattle.ntp_reports.specs.Statistics.{metric_text}
 use Rattle.ntp_reports.proofs.statistics.write_statistics.Given as goal
 

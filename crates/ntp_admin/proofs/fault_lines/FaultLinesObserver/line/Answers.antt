@@ -1,6 +1,5 @@
 use Rattle.std.proofs.Common.{◌≡◌, List, ◌++◌, ◌∷◌, [], append_assoc, rules}
-use Rattle.std.specs.Prelude.{ℕ, codes, Option, OnOk}
-use Rattle.std.specs.Io.KnownBytes.{Appends}
+use Rattle.std.specs.{Prelude.ℕ, Prelude.codes, Prelude.Option, Prelude.OnOk, Io.KnownBytes.Appends}
 use Rattle.std.proofs.lemmas.Result.{on_ok_weaker}
 use Rattle.ntp_admin.specs.CommandsFile.{fault_line, line_text}
 use Rattle.ntp_admin.proofs.fault_lines.FaultLinesObserver.line.Goals.{in-Refused, in-Faulty}

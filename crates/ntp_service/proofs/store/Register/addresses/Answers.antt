@@ -1,6 +1,5 @@
 use Rattle.std.proofs.Common.{◌≡◌, ◌++◌, ap, sym, ◌∙◌, subst, append-nil}
-use Rattle.std.specs.Prelude.{IsSome, Contains}
-use Rattle.std.specs.Map.{keys_of, lookup}
+use Rattle.std.specs.{Prelude.IsSome, Prelude.Contains, Map.keys_of, Map.lookup}
 use Rattle.std.proofs.lemmas.Map.Views.{Contains-keys_from_lookup, IsSome-lookup_from_Contains}
 use Rattle.ntp_service.specs.{Address.address_eq, Registry.customer_at}
 use Rattle.ntp_service.proofs.{AddressLaws.addresses, AddressLaws.address_eq_equiv, Histories.same-address, Entries.get-lookup}
